@@ -1,0 +1,5 @@
+pub mod Wholes
+pub mod Naming
+pub mod Escapes
+pub mod Pieces
+pub mod Written

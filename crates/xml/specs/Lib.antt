@@ -1,0 +1,5 @@
+pub mod Text
+pub mod Names
+pub mod Escaping
+pub mod Reading
+pub mod Back

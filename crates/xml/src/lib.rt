@@ -1,0 +1,13 @@
+// What XML asks of bytes: well-formed text, names, and escaping.
+mod escape;
+mod name;
+mod text;
+
+pub use escape::EscapeRule;
+pub use escape::QuoteLevel;
+pub use escape::QuoteLevelRule;
+pub use escape::Use;
+pub use escape::escape_into;
+pub use escape::escaped_len;
+pub use name::XmlName;
+pub use text::well_formed;
