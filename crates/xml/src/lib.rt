@@ -5,8 +5,12 @@ mod text;
 
 pub use escape::EscapeRule;
 pub use escape::QuoteLevel;
+pub use escape::QuoteLevelDebug;
+pub use escape::QuoteLevelPartialEq;
 pub use escape::QuoteLevelRule;
 pub use escape::Use;
+pub use escape::UseDebug;
+pub use escape::UsePartialEq;
 pub use escape::escape_into;
 pub use escape::escaped_len;
 pub use name::XmlName;
