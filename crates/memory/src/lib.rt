@@ -1,6 +1,7 @@
 // Bytes that a caller lends, and the stores into them that the other crates share.
 // The callers know that what they store fits; they ask the length first.
 ghost use mathlib.Core.Path.{_≡_};
+ghost use mathlib.Core.List.{_++_};
 ghost use Prim.Native.Nat.{_+_, _-_, _≤_};
 ghost use lib.ListN.{length, take, drop};
 ghost use Rattle.memory.specs.Laid.{laid};
@@ -10,6 +11,7 @@ pub fn lay(out: &mut [u8], at: usize, src: &[u8]) -> usize
     requires { ⌜ at + length (now src) ≤ length (now out) ⌝ }
     ensures end { λ r. ⌜ r ≡ at + length (now (src .entry)) ⌝ }
     ensures bytes { λ _. ⌜ now (out .exit) ≡ laid (now (out .entry)) at (now (src .entry)) ⌝ }
+    ensures front { λ r. ⌜ take r (now (out .exit)) ≡ take at (now (out .entry)) ++ now (src .entry) ⌝ }
 {
     let end = at + src.len();
     out[at..end].copy_from_slice(src);
@@ -42,6 +44,7 @@ impl Bytes<'_> {
         requires { ⌜ from + length (now src) ≤ length (now (now self .at)) ⌝ }
         ensures end { λ r. ⌜ r ≡ from + length (now (src .entry)) ⌝ }
         ensures bytes { λ _. ⌜ now (now (self .exit) .at) ≡ laid (now (now (self .entry) .at)) from (now (src .entry)) ⌝ }
+        ensures front { λ r. ⌜ take r (now (now (self .exit) .at)) ≡ take from (now (now (self .entry) .at)) ++ now (src .entry) ⌝ }
         ensures len { λ _. ⌜ length (now (now (self .exit) .at)) ≡ length (now (now (self .entry) .at)) ⌝ }
     {
         lay(self.at, from, src)

@@ -90,3 +90,6 @@ pub impl fmt::Display for Refusal as RefusalDisplay {
         write!(f, "refusal {number} {word} at {offset}")
     }
 }
+
+#[cfg(test)]
+mod tests;

@@ -10,3 +10,6 @@ pub use buffer::BufferSinkSink;
 pub use paged::PageSink;
 pub use paged::PageSinkSink;
 pub use sink::Sink;
+
+#[cfg(test)]
+mod tests;

@@ -21,7 +21,7 @@ pub struct PageSink {
     pages: Pages,
     len: usize,
     ghost fits: { len ≤ 4096 },
-    ghost whole: { length (pages .pages) ≡ 16 },
+    ghost whole: { length (flat (pages .pages)) ≡ 4096 },
 }
 
 impl PageSink {

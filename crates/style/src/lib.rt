@@ -7,3 +7,6 @@ pub use indentation::Indentation;
 pub use result::WriteResult;
 pub use style::EmptyElementHandling;
 pub use style::Style;
+
+#[cfg(test)]
+mod tests;

@@ -15,7 +15,7 @@ use Rattle.std.proofs.shelf.Lists.{nil-from-length}
 use Rattle.std.proofs.shelf.Tests.{and-from, and-parts, both-ways, cond-true, cond-false, or-left}
 use Rattle.std.specs.declared.option.Option.{Option}
 use Rattle.std.specs.declared.option.Option.the-variants.{Some, None}
-use Rattle.xml.specs.Names.{is-start, is-name-char, all-name-chars, is-name, Name, may-follow, FirstAtFault, stray-from, fault-from, name-fault}
+use Rattle.xml.specs.Names.{is-start, is-name-char, all-name-chars, is-name, Name, may-follow, FirstAtFault, Faults, stray-from, fault-from, name-fault}
 
 -- one more name character behind a name is a name
 all-more : (cs : List ℕ) (c : ℕ) → all-name-chars cs ≡ true → is-name-char c ≡ true → all-name-chars (cs ++ c ∷ []) ≡ true
@@ -93,17 +93,16 @@ name-from-none (c ∷ cs) s = split (is-start c) s
     split true s = all-from-none cs (0 + width c) s
     split false s = let z : _≡_ {A = ℕ} 0 1 = cc in absurd (omega arith)
 
-pub name-of : (bs : List ℕ) → Utf8 bs → name-fault bs ≡ None → Name bs
-name-of bs u e = record { chars = decodes bs; scalar = scalars-decodes bs u; spelt = encodes-decodes bs u; is = name-from-none (decodes bs) e }
-
-pub fault-of : (bs : List ℕ) (k : ℕ) → Utf8 bs → name-fault bs ≡ Some k → FirstAtFault bs k
-fault-of bs k u e = subst (λ l. FirstAtFault l k) (encodes-decodes bs u) (first-at-fault (decodes bs) k e)
-
-pub no-name : (bs : List ℕ) (k : ℕ) → name-fault bs ≡ Some k → Name bs → ⊥
-no-name bs k e n =
-    let same : decodes bs ≡ n .chars = ap decodes (sym (n .spelt)) ∙ decodes-encodes (n .chars) (n .scalar) in
-    let none : name-fault bs ≡ None = ap (λ cs. fault-from cs 0) same ∙ fault-none (n .chars) (n .is) in
-    let z : _≡_ {A = ℕ} 0 1 = cc in omega arith
+-- so the computed answer is the right one
+pub faults-of : (bs : List ℕ) → Utf8 bs → (r : Option ℕ) → r ≡ name-fault bs → Faults r bs
+faults-of bs u None e = record { chars = decodes bs; scalar = scalars-decodes bs u; spelt = encodes-decodes bs u; is = name-from-none (decodes bs) (sym e) }
+faults-of bs u (Some k) e = (subst (λ l. FirstAtFault l k) (encodes-decodes bs u) (first-at-fault (decodes bs) k (sym e)), no-name)
+  where
+    no-name : Name bs → ⊥
+    no-name n =
+        let same : decodes bs ≡ n .chars = ap decodes (sym (n .spelt)) ∙ decodes-encodes (n .chars) (n .scalar) in
+        let none : name-fault bs ≡ None = ap (λ cs. fault-from cs 0) same ∙ fault-none (n .chars) (n .is) in
+        let z : _≡_ {A = ℕ} 0 1 = cc in omega arith
 
 -- one step of the search for a stray character
 stray-step : (bs rest : List ℕ) (c at : ℕ) → Utf8 bs → bs ≡ encode c ++ rest → stray-from (decodes bs) at ≡ cond (is-name-char c) (stray-from (decodes rest) (at + length (encode c))) (Some at)

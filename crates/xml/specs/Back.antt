@@ -39,9 +39,14 @@ pub record ReadsBack (u : Use) (raw value : List ℕ) : Type 0 where
   pub only : (other : List ℕ) → Reads u raw other → other ≡ value
   pub clean : free (barred u) raw ≡ true
 
--- what becomes of bytes into which a value is escaped from `at` on, by the rule that chooses so: where they are too few
--- nothing changes; else the escaped value stands there, nothing else changes, and a reader takes it for the value
+-- a value was escaped into bytes from `at` up to `end`: the escaped value stands there, everything else is as before,
+-- and a reader takes what stands there for the value
+pub record Writes (u : Use) (chosen : ℕ → Bool) (value : List ℕ) (at end : ℕ) (before after : List ℕ) : Type 0 where
+  pub ends : end ≡ at + length (escaped chosen value)
+  pub bytes : after ≡ laid before at (escaped chosen value)
+  pub says : ReadsBack u (take (end - at) (drop at after)) value
+
+-- where it would end past the bytes there are, nothing changes
 abbrev pub Escapes : Use → (ℕ → Bool) → List ℕ → ℕ → Result ℕ Refusal → List ℕ → List ℕ → Type 0
-Escapes u chosen value at (Ok end) before after =
-    (end ≡ at + length (escaped chosen value)) × (after ≡ laid before at (escaped chosen value)) × ReadsBack u (take (end - at) (drop at after)) value
-Escapes u chosen value at (Err e) before after = Refuses 8 0 e × (length before - at < length (escaped chosen value)) × (after ≡ before)
+Escapes u chosen value at (Ok end) before after = Writes u chosen value at end before after
+Escapes u chosen value at (Err e) before after = Refuses 8 0 e × (length before < at + length (escaped chosen value)) × (after ≡ before)

@@ -72,6 +72,11 @@ pub record FirstAtFault (bs : List ℕ) (k : ℕ) : Type 0 where
   pub begun : (front ≡ []) ⊎ (is-name front ≡ true)
   pub fault : ((front ≡ []) × (here ≡ [])) ⊎ ((c : ℕ) × (rest : List ℕ) × (here ≡ encode c ++ rest) × (may-follow front c ≡ false))
 
+-- what a search for the first fault may answer: none for a name, and else the place of the first
+abbrev pub Faults : Option ℕ → List ℕ → Type 0
+Faults None bs = Name bs
+Faults (Some k) bs = FirstAtFault bs k × (Name bs → ⊥)
+
 -- the same as a test that computes: the place of the first character at fault among cs, counted on from `at`
 abbrev pub stray-from : List ℕ → ℕ → Option ℕ
 stray-from [] at = None

@@ -5,7 +5,7 @@ ghost use Prim.Native.Nat.{ℕ, _+_, _-_, _^_, _<_, _≤_, min};
 ghost use lib.ListN.{length};
 ghost use Rattle.xml.specs.declared.escape.Use.{Use};
 ghost use Rattle.xml.specs.Escaping.{nine, asked, added, level-chooses, replacement, escaped, piece};
-ghost use Rattle.xml.specs.Back.{Escapes};
+ghost use Rattle.xml.specs.Back.{Writes, Escapes};
 ghost use Rattle.memory.specs.Laid.{laid};
 use memory::lay;
 use refusal::Refusal;
@@ -134,8 +134,7 @@ fn escape_byte<R: EscapeRule>(out: &mut [u8], at: usize, byte: u8, rule: &R, tar
 // All bytes of a value, where there is room for them.
 fn escape_all<R: EscapeRule>(out: &mut [u8], at: usize, value: &[u8], rule: &R, target: Use) -> usize
     requires { ⌜ at + length (escaped (chooses (now rule) target) (now value)) ≤ length (now out) ⌝ }
-    ensures end { λ r. ⌜ r ≡ at + length (escaped (chooses (now (rule .entry)) target) (now (value .entry))) ⌝ }
-    ensures bytes { λ _. ⌜ now (out .exit) ≡ laid (now (out .entry)) at (escaped (chooses (now (rule .entry)) target) (now (value .entry))) ⌝ }
+    ensures { λ r. ⌜ Writes target (chooses (now (rule .entry)) target) (now (value .entry)) at r (now (out .entry)) (now (out .exit)) ⌝ }
 {
     let mut end = at;
     for byte in value {
@@ -145,17 +144,14 @@ fn escape_all<R: EscapeRule>(out: &mut [u8], at: usize, value: &[u8], rule: &R, 
 }
 
 /// Writes a value for a use into `out` from `at` on, each byte that the rule chooses replaced, and answers where it ends.
-/// Where `out` has too few bytes behind `at` it is left as it was, under refusal 8.
+/// Where it would end past `out`, nothing is written, under refusal 8.
 /// What stands there then is read back as the value: in a text, in an attribute or as one item of a list, as the use says.
 pub fn escape_into<R: EscapeRule>(out: &mut [u8], at: usize, value: &[u8], rule: &R, target: Use) -> Result<usize, Refusal>
     ensures escapes { λ r. ⌜ Escapes target (chooses (now (rule .entry)) target) (now (value .entry)) at r (now (out .entry)) (now (out .exit)) ⌝ }
 {
     let len = escaped_len(value, rule, target);
-    if out.len().saturating_sub(at) < len {
+    if out.len() < at.saturating_add(len) {
         return Err(Refusal::Stage);
-    }
-    if len == 0 {
-        return Ok(at);
     }
     Ok(escape_all(out, at, value, rule, target))
 }

@@ -15,3 +15,6 @@ pub use escape::escape_into;
 pub use escape::escaped_len;
 pub use name::XmlName;
 pub use text::well_formed;
+
+#[cfg(test)]
+mod tests;

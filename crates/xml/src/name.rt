@@ -4,7 +4,7 @@ ghost use Rattle.std.specs.Results.{Cases};
 ghost use Rattle.std.specs.shelf.Text.{decodes};
 ghost use Rattle.std.specs.declared.option.Option.the-variants.{Some};
 ghost use Rattle.refusal.specs.Refusals.{number, offset};
-ghost use Rattle.xml.specs.Names.{is-start, is-name-char, stray-from, name-fault, Name, FirstAtFault};
+ghost use Rattle.xml.specs.Names.{is-start, is-name-char, stray-from, name-fault, Name, FirstAtFault, Faults};
 use refusal::Refusal;
 
 /// A borrowed name: `try_from` alone makes one, and of nothing but a name.
@@ -58,7 +58,8 @@ fn first_stray(name: &str) -> Option<usize>
 
 // The offset of the first character at fault: a name also has to begin, and with a start character.
 fn first_fault(name: &str) -> Option<usize>
-    ensures { λ r. ⌜ r ≡ name-fault (now (name .entry)) ⌝ }
+    ensures value { λ r. ⌜ r ≡ name-fault (now (name .entry)) ⌝ }
+    ensures faults { λ r. ⌜ Faults r (now (name .entry)) ⌝ }
 {
     match name.chars().next() {
         None => Some(0),

@@ -1,5 +1,7 @@
 use Rattle.xml.specs.Escaping.{piece}
 use Rattle.xml.proofs.Pieces.{sofar-none, sofar-room, sofar-more, sofar-all}
+use Rattle.xml.proofs.Escapes.{Lawful}
+use Rattle.xml.proofs.Written.{writes}
 use Rattle.xml.proofs.escape.escape_all.Needs as need
 
 pub escape-byte-end-requires : need.escape-byte-end-requires
@@ -20,7 +22,11 @@ loop-byte-again g c =
 
 pub returns : need.returns
 returns g c =
-    let f = piece (g .R·EscapeRule .chooses (c .args .rule .now) (c .args .target)) in
+    let rule = c .args .rule .now in
+    let u = c .args .target in
+    let f = piece (g .R·EscapeRule .chooses rule u) in
+    let law : Lawful u (g .R·EscapeRule .chooses rule u) = record { within = g .R·EscapeRule·met .within rule u; enough = g .R·EscapeRule·met .enough rule u } in
     let l = c .loop-byte in
-    let all = sofar-all f (c .args .out .now) (c .args .at) (c .args .value .now) (c .pre) (l .byte-index) (l .end) (l .out) (l .inv) (c .loop-byte-test .left) in
-    record { end = all .0; bytes = all .1 }
+    let d = c .args .out .now in
+    let all = sofar-all f d (c .args .at) (c .args .value .now) (c .pre) (l .byte-index) (l .end) (l .out) (l .inv) (c .loop-byte-test .left) in
+    writes law (c .args .value .now) d (c .args .at) (l .end) (l .out) (c .pre) (all .0) (all .1)

@@ -4,7 +4,7 @@ use native.Mathlib.Omega.{arith}
 use lib.ListN.{length, set, length-set}
 use borrow.Author.Needs.{needs}
 use Rattle.sink.specs.Pages.{flat}
-use Rattle.sink.proofs.Paging.{flat-set}
+use Rattle.sink.proofs.Paging.{flat-set, flat-length}
 use Rattle.sink.proofs.pages.Pages.store.Needs as need
 
 pub returns : need.returns
@@ -15,5 +15,5 @@ returns c =
     let split : at / 256 * 256 + at % 256 ≡ at = omega arith in
     record {
       bytes = flat-set pages (at / 256) (at % 256) (c .args .byte) (c .store .last .self) _ (omega arith) (omega arith) (c .store .ensures .bytes) ∙ ap (λ n. set (flat pages) n (c .args .byte)) split;
-      len = length-set pages (at / 256) _ ∙ whole;
+      len = flat-length (set pages (at / 256) _) ∙ ap (λ n. n * 256) (length-set pages (at / 256) _ ∙ whole);
     }
