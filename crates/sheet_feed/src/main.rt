@@ -48,7 +48,13 @@ fn put<S: Sink>(rt: &LibcRuntime, label: &str, sink: &mut S, bytes: &[u8]) -> io
 }
 
 // The name for one use under one level, into both sinks.
-fn write<A: Sink, B: Sink>(rt: &LibcRuntime, level: QuoteLevel, target: Use, buffer: &mut A, pages: &mut B) -> io::Result<()> {
+fn write<A: Sink, B: Sink>(
+    rt: &LibcRuntime,
+    level: QuoteLevel,
+    target: Use,
+    buffer: &mut A,
+    pages: &mut B,
+) -> io::Result<()> {
     let mut stage = [0u8; 128];
     match escape_into(&mut stage, 0, TRAIL.as_bytes(), &level, target) {
         Ok(end) => {
@@ -64,7 +70,10 @@ fn write<A: Sink, B: Sink>(rt: &LibcRuntime, level: QuoteLevel, target: Use, buf
 }
 
 fn check_style(rt: &LibcRuntime, byte: u8, size: usize) -> io::Result<()> {
-    match Style::new(EmptyElementHandling::SelfClosed, Some(Indentation { byte, size })) {
+    match Style::new(
+        EmptyElementHandling::SelfClosed,
+        Some(Indentation { byte, size }),
+    ) {
         Ok(_) => println!(rt, "  byte {byte}, size {size}: a style"),
         Err(refusal) => println!(rt, "  byte {byte}, size {size}: {refusal}"),
     }

@@ -22,7 +22,10 @@ impl<'a> BufferSink<'a> {
         ensures room { λ r. ⌜ length (now (r .buffer .at)) - r .len ≡ length (now (buffer .entry)) ⌝ }
         ensures memory { λ r. ⌜ now (r .buffer .at) ≡ now (buffer .entry) ⌝ }
     {
-        BufferSink { buffer: Bytes::new(buffer), len: 0 }
+        BufferSink {
+            buffer: Bytes::new(buffer),
+            len: 0,
+        }
     }
 }
 
@@ -37,6 +40,7 @@ impl BufferSink<'_> {
 
 pub impl Sink for BufferSink<'_> as BufferSinkSink {
     ghost held = { λ s. take (s .len) (s .buffer .at .now) };
+
     ghost room = { λ s. length (s .buffer .at .now) - s .len };
 
     fn counts(&self) -> (usize, usize) {

@@ -29,19 +29,27 @@ impl PageSink {
         ensures held { λ r. ⌜ take (r .len) (flat (r .pages .pages)) ≡ [] ⌝ }
         ensures room { λ r. ⌜ 4096 - r .len ≡ 4096 ⌝ }
     {
-        PageSink { pages: Pages::new(), len: 0 }
+        PageSink {
+            pages: Pages::new(),
+            len: 0,
+        }
     }
 
     /// The byte at a place, if it holds that many.
     pub fn get(&self, at: usize) -> Option<u8>
         ensures value { λ r. ⌜ r ≡ cond (ltb at (now (self .entry) .len)) (Some (getD (flat (now (self .entry) .pages .pages)) at 0)) None ⌝ }
     {
-        if at < self.len { Some(self.pages.get(at)) } else { None }
+        if at < self.len {
+            Some(self.pages.get(at))
+        } else {
+            None
+        }
     }
 }
 
 pub impl Sink for PageSink as PageSinkSink {
     ghost held = { λ s. take (s .len) (flat (s .pages .pages)) };
+
     ghost room = { λ s. 4096 - s .len };
 
     fn counts(&self) -> (usize, usize) {

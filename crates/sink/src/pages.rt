@@ -17,7 +17,9 @@ impl Pages {
     pub(crate) fn new() -> Pages
         ensures len { λ r. ⌜ length (flat (r .pages)) ≡ 4096 ⌝ }
     {
-        Pages { pages: [Page::new(); 16] }
+        Pages {
+            pages: [Page::new(); 16],
+        }
     }
 
     pub(crate) fn get(&self, at: usize) -> u8

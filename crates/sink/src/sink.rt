@@ -8,6 +8,7 @@ use refusal::Refusal;
 
 pub trait Sink {
     ghost held: { Self → List ℕ };
+
     ghost room: { Self → ℕ };
 
     /// How many bytes it holds, and how many it still takes.

@@ -27,7 +27,10 @@ pub struct Style {
 }
 
 impl Style {
-    pub fn new(empty_elements: EmptyElementHandling, indentation: Option<Indentation>) -> Result<Style, Refusal>
+    pub fn new(
+        empty_elements: EmptyElementHandling,
+        indentation: Option<Indentation>,
+    ) -> Result<Style, Refusal>
         ensures cases { λ r. ⌜ Cases r (λ s. (s .«empty_elements» ≡ «empty_elements») × (s .indentation ≡ indentation)) (λ e. (allowed indentation ≡ false) × Refuses 10 0 e) ⌝ }
     {
         if let Some(indent) = indentation {
@@ -35,7 +38,10 @@ impl Style {
                 return Err(Refusal::Style);
             }
         }
-        Ok(Style { empty_elements, indentation })
+        Ok(Style {
+            empty_elements,
+            indentation,
+        })
     }
 
     pub fn empty_elements(&self) -> EmptyElementHandling

@@ -26,7 +26,10 @@ const INDENTS: [(u8, usize, bool); 12] = [
 #[test]
 fn indents() -> Result<(), Fail> {
     for (byte, size, allowed) in INDENTS {
-        match Style::new(EmptyElementHandling::Expanded, Some(Indentation { byte, size })) {
+        match Style::new(
+            EmptyElementHandling::Expanded,
+            Some(Indentation { byte, size }),
+        ) {
             Ok(style) => {
                 check(allowed)?;
                 check(style.indentation() == Some(Indentation { byte, size }))?;

@@ -22,7 +22,6 @@ pub record Lawful (u : Use) (chosen : ℕ → Bool) : Type 0 where
   pub within : (b : ℕ) → chosen b ≡ true → nine b ≡ true
   pub enough : (b : ℕ) → asked u b ≡ true → chosen b ≡ true
 
-
 -- what holds of each byte of a list holds of any byte among them
 abbrev pub Each : (ℕ → Type 0) → List ℕ → Type 0
 Each P [] = Unit {0}
@@ -99,6 +98,7 @@ module _ {u : Use} {chosen : ℕ → Bool} (law : Lawful u chosen) where
     where
       asks : (x : ℕ) → among x (38 ∷ 60 ∷ 62 ∷ []) ≡ true → among x (must u) ≡ true
       asks x = among-inside (38 ∷ 60 ∷ 62 ∷ []) (must u) x i
+
       one : (t : Bool) → chosen b ≡ t → CharData (escaped chosen bs) bs → CharData (cond t (replacement b) (b ∷ []) ++ escaped chosen bs) (b ∷ bs)
       one true e rest = text-reference (nine-reference b (law .within b e)) rest
       one false e rest =
@@ -111,6 +111,7 @@ module _ {u : Use} {chosen : ℕ → Bool} (law : Lawful u chosen) where
     where
       asks : (x : ℕ) → among x (38 ∷ 60 ∷ 34 ∷ 9 ∷ 10 ∷ []) ≡ true → among x (must u) ≡ true
       asks x = among-inside (38 ∷ 60 ∷ 34 ∷ 9 ∷ 10 ∷ []) (must u) x i
+
       one : (t : Bool) → chosen b ≡ t → AttValue (escaped chosen bs) bs → AttValue (cond t (replacement b) (b ∷ []) ++ escaped chosen bs) (b ∷ bs)
       one true e rest = value-reference (nine-reference b (law .within b e)) rest
       one false e rest =

@@ -41,8 +41,7 @@ module _ (f : ℕ → List ℕ) (d : List ℕ) (at : ℕ) (xs : List ℕ) (fits 
   sofar-more i end out s h end′ out′ p q =
       let before = joined f (take i xs) in
       let piece = f (getD xs i 0) in
-      let more : joined f (take (i + 1) xs) ≡ before ++ piece = joined-step f xs i 0 h in
-      (
+      let more : joined f (take (i + 1) xs) ≡ before ++ piece = joined-step f xs i 0 h in (
         omega (arith, p, s .0, ap length more, length-append before piece),
         q ∙ ap (λ e. laid out e piece) (s .0) ∙ ap (λ l. laid l (at + length before) piece) (s .1) ∙ laid-laid d before piece at (omega (arith, step-length i h)) ∙ ap (laid d at) (sym more),
       )

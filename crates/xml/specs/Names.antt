@@ -21,7 +21,6 @@ abbrev pub _to_ : ℕ → ℕ → Range
 a to b = record { first = a; last = b }
 
 infix 70 _to_
-
 -- production 4, NameStartChar
 abbrev pub start-ranges : List Range
 start-ranges =

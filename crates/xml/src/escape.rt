@@ -132,7 +132,13 @@ fn escape_byte<R: EscapeRule>(out: &mut [u8], at: usize, byte: u8, rule: &R, tar
 }
 
 // All bytes of a value, where there is room for them.
-fn escape_all<R: EscapeRule>(out: &mut [u8], at: usize, value: &[u8], rule: &R, target: Use) -> usize
+fn escape_all<R: EscapeRule>(
+    out: &mut [u8],
+    at: usize,
+    value: &[u8],
+    rule: &R,
+    target: Use,
+) -> usize
     requires { ⌜ at + length (escaped (chooses (now rule) target) (now value)) ≤ length (now out) ⌝ }
     ensures { λ r. ⌜ Writes target (chooses (now (rule .entry)) target) (now (value .entry)) at r (now (out .entry)) (now (out .exit)) ⌝ }
 {
@@ -146,7 +152,13 @@ fn escape_all<R: EscapeRule>(out: &mut [u8], at: usize, value: &[u8], rule: &R, 
 /// Writes a value for a use into `out` from `at` on, each byte that the rule chooses replaced, and answers where it ends.
 /// Where it would end past `out`, nothing is written, under refusal 8.
 /// What stands there then is read back as the value: in a text, in an attribute or as one item of a list, as the use says.
-pub fn escape_into<R: EscapeRule>(out: &mut [u8], at: usize, value: &[u8], rule: &R, target: Use) -> Result<usize, Refusal>
+pub fn escape_into<R: EscapeRule>(
+    out: &mut [u8],
+    at: usize,
+    value: &[u8],
+    rule: &R,
+    target: Use,
+) -> Result<usize, Refusal>
     ensures escapes { λ r. ⌜ Escapes target (chooses (now (rule .entry)) target) (now (value .entry)) at r (now (out .entry)) (now (out .exit)) ⌝ }
 {
     let len = escaped_len(value, rule, target);

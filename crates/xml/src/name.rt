@@ -39,7 +39,8 @@ fn is_name_start_char(c: char) -> bool
 fn is_name_char(c: char) -> bool
     ensures { λ r. ⌜ r ≡ is-name-char c ⌝ }
 {
-    is_name_start_char(c) || matches!(c, '-' | '.' | '0'..='9' | '\u{B7}' | '\u{300}'..='\u{36F}' | '\u{203F}'..='\u{2040}')
+    is_name_start_char(c)
+        || matches!(c, '-' | '.' | '0'..='9' | '\u{B7}' | '\u{300}'..='\u{36F}' | '\u{203F}'..='\u{2040}')
 }
 
 // The offset of the first character that stands in no name, if there is one.

@@ -189,18 +189,66 @@ fn names() -> Result<(), Fail> {
 const NINE: &[u8] = b"<>'&\"\t\n\r x";
 
 const ESCAPED: [(QuoteLevel, Use, &[u8]); 12] = [
-    (QuoteLevel::Full, Use::Text, b"&lt;&gt;&apos;&amp;&quot;\t\n&#13; x"),
-    (QuoteLevel::Full, Use::Attribute, b"&lt;&gt;&apos;&amp;&quot;&#9;&#10;&#13; x"),
-    (QuoteLevel::Full, Use::TextItem, b"&lt;&gt;&apos;&amp;&quot;&#9;&#10;&#13;&#32;x"),
-    (QuoteLevel::Full, Use::AttributeItem, b"&lt;&gt;&apos;&amp;&quot;&#9;&#10;&#13;&#32;x"),
-    (QuoteLevel::Partial, Use::Text, b"&lt;&gt;'&amp;\"\t\n&#13; x"),
-    (QuoteLevel::Partial, Use::Attribute, b"&lt;&gt;'&amp;&quot;&#9;&#10;&#13; x"),
-    (QuoteLevel::Partial, Use::TextItem, b"&lt;&gt;'&amp;\"&#9;&#10;&#13;&#32;x"),
-    (QuoteLevel::Partial, Use::AttributeItem, b"&lt;&gt;'&amp;&quot;&#9;&#10;&#13;&#32;x"),
-    (QuoteLevel::Minimal, Use::Text, b"&lt;&gt;'&amp;\"\t\n&#13; x"),
-    (QuoteLevel::Minimal, Use::Attribute, b"&lt;>'&amp;&quot;&#9;&#10;&#13; x"),
-    (QuoteLevel::Minimal, Use::TextItem, b"&lt;&gt;'&amp;\"&#9;&#10;&#13;&#32;x"),
-    (QuoteLevel::Minimal, Use::AttributeItem, b"&lt;>'&amp;&quot;&#9;&#10;&#13;&#32;x"),
+    (
+        QuoteLevel::Full,
+        Use::Text,
+        b"&lt;&gt;&apos;&amp;&quot;\t\n&#13; x",
+    ),
+    (
+        QuoteLevel::Full,
+        Use::Attribute,
+        b"&lt;&gt;&apos;&amp;&quot;&#9;&#10;&#13; x",
+    ),
+    (
+        QuoteLevel::Full,
+        Use::TextItem,
+        b"&lt;&gt;&apos;&amp;&quot;&#9;&#10;&#13;&#32;x",
+    ),
+    (
+        QuoteLevel::Full,
+        Use::AttributeItem,
+        b"&lt;&gt;&apos;&amp;&quot;&#9;&#10;&#13;&#32;x",
+    ),
+    (
+        QuoteLevel::Partial,
+        Use::Text,
+        b"&lt;&gt;'&amp;\"\t\n&#13; x",
+    ),
+    (
+        QuoteLevel::Partial,
+        Use::Attribute,
+        b"&lt;&gt;'&amp;&quot;&#9;&#10;&#13; x",
+    ),
+    (
+        QuoteLevel::Partial,
+        Use::TextItem,
+        b"&lt;&gt;'&amp;\"&#9;&#10;&#13;&#32;x",
+    ),
+    (
+        QuoteLevel::Partial,
+        Use::AttributeItem,
+        b"&lt;&gt;'&amp;&quot;&#9;&#10;&#13;&#32;x",
+    ),
+    (
+        QuoteLevel::Minimal,
+        Use::Text,
+        b"&lt;&gt;'&amp;\"\t\n&#13; x",
+    ),
+    (
+        QuoteLevel::Minimal,
+        Use::Attribute,
+        b"&lt;>'&amp;&quot;&#9;&#10;&#13; x",
+    ),
+    (
+        QuoteLevel::Minimal,
+        Use::TextItem,
+        b"&lt;&gt;'&amp;\"&#9;&#10;&#13;&#32;x",
+    ),
+    (
+        QuoteLevel::Minimal,
+        Use::AttributeItem,
+        b"&lt;>'&amp;&quot;&#9;&#10;&#13;&#32;x",
+    ),
 ];
 
 #[test]

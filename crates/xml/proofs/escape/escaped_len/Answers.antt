@@ -14,7 +14,7 @@ loop-byte-again g c =
     let i = c .loop-byte .byte-index in
     let byte = getD xs i 0 in
     let more : length (escaped chosen (take (i + 1) xs)) ≡ length (escaped chosen (take i xs)) + length (piece chosen byte) =
-        ap length (joined-step (piece chosen) xs i 0 (c .loop-byte-test .taken)) ∙ length-append (escaped chosen (take i xs)) (piece chosen byte) in
+    ap length (joined-step (piece chosen) xs i 0 (c .loop-byte-test .taken)) ∙ length-append (escaped chosen (take i xs)) (piece chosen byte) in
     let before : c .loop-byte .len ≡ min (length (escaped chosen (take i xs))) (2 ^ 64 - 1) = c .loop-byte .inv in
     let this : c .piece-len .result ≡ length (piece chosen byte) = c .piece-len .ensures in
     omega (arith, more, before, this, c .saturating-add-len .ensures)

@@ -13,8 +13,7 @@ loop-at-again c =
     let rest = char-indices-rest (c .next .last .self) in
     let inv = c .loop-at .inv in
     let step = c .in-Some .ensures tt .steps in
-    let more = sym (c .is-name-char .ensures) ∙ c .if-not-is-name-char .left in
-    (
+    let more = sym (c .is-name-char .ensures) ∙ c .if-not-is-name-char .left in (
       utf8-past-char bs rest (c .in-Some .c) (inv .0) (step .1),
       ap (stray-from (decodes rest)) (step .2) ∙ stray-later bs rest (c .in-Some .c) (char-indices-at (c .loop-at .at-iterator)) (inv .0) (step .1) more ∙ inv .1,
       inv .2,
