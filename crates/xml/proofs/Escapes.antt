@@ -13,14 +13,9 @@ use Rattle.std.specs.shelf.Text.{sameBytes}
 use Rattle.std.proofs.shelf.Tests.{and-from, and-parts, both-ways, eqb-true, eq-eqb, ne-eqb, eqb-false, not-from-false, not-true, or-cases, or-parts, and-left, and-right, cases-bool}
 use Rattle.xml.specs.declared.escape.Use.{Use}
 use Rattle.xml.specs.declared.escape.Use.the-variants.{Text, Attribute, TextItem, AttributeItem}
-use Rattle.xml.specs.Escaping.{among, nine, replacement, must, asked, piece, escaped}
+use Rattle.xml.specs.Escaping.{among, nine, replacement, must, asked, piece, escaped, Lawful}
 use Rattle.xml.specs.Reading.{lines-after, lines, Reference, lt, gt, apos, amp, quot, tab, line-feed, carriage-return, space, begins, CharData, text-end, text-raw, text-reference, value-byte, AttValue, value-end, value-raw, value-reference}
-use Rattle.xml.specs.Back.{Reads, barred, free, ReadsBack}
-
--- the two laws of a rule, for one use
-pub record Lawful (u : Use) (chosen : ℕ → Bool) : Type 0 where
-  pub within : (b : ℕ) → chosen b ≡ true → nine b ≡ true
-  pub enough : (b : ℕ) → asked u b ≡ true → chosen b ≡ true
+use Rattle.xml.specs.Back.{barred, free, ReadsBack}
 
 -- what holds of each byte of a list holds of any byte among them
 abbrev pub Each : (ℕ → Type 0) → List ℕ → Type 0

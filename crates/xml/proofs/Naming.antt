@@ -132,3 +132,6 @@ pub fault-later : (bs rest : List ℕ) (c : ℕ) → Utf8 bs → bs ≡ encode c
 fault-later bs rest c u e h =
     let is = decodes-past-char bs rest c u e in
     ap (λ cs. stray-from cs 0) is ∙ cond-true _ _ _ (or-left _ _ h) ∙ sym (ap (λ cs. fault-from cs 0) is ∙ cond-true _ _ _ h)
+
+pub name-from-no-fault : {n : List ℕ} → Utf8 n → name-fault n ≡ None → Name n
+name-from-no-fault {n} u e = faults-of n u None (sym e)

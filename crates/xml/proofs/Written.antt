@@ -9,9 +9,9 @@ use borrow.Author.Needs.{needs}
 use Rattle.std.proofs.shelf.Lists.{same-lists, places}
 use Rattle.memory.specs.Laid.{laid}
 use Rattle.xml.specs.declared.escape.Use.{Use}
-use Rattle.xml.specs.Escaping.{escaped}
+use Rattle.xml.specs.Escaping.{escaped, Lawful}
 use Rattle.xml.specs.Back.{ReadsBack, Writes}
-use Rattle.xml.proofs.Escapes.{Lawful, reads-back}
+use Rattle.xml.proofs.Escapes.{reads-back}
 
 -- what was laid down is found where it was laid
 found : (d s : List ℕ) (at : ℕ) → at + length s ≤ length d → take (length s) (drop at (laid d at s)) ≡ s

@@ -15,11 +15,11 @@ use Rattle.xml.specs.Escaping.{among, escaped}
 use Rattle.xml.specs.Reading.{lines, CharData, AttValue}
 
 -- raw bytes that were written for a use are read as this value
-abbrev pub Reads : Use → List ℕ → List ℕ → Type 0
-Reads Text raw value = CharData (lines raw) value
-Reads Attribute raw value = AttValue (lines raw) value
-Reads TextItem raw value = CharData (lines raw) value
-Reads AttributeItem raw value = AttValue (lines raw) value
+abbrev pub ReadFor : Use → List ℕ → List ℕ → Type 0
+ReadFor Text raw value = CharData (lines raw) value
+ReadFor Attribute raw value = AttValue (lines raw) value
+ReadFor TextItem raw value = CharData (lines raw) value
+ReadFor AttributeItem raw value = AttValue (lines raw) value
 
 -- what may not stand raw in a use: < and > (so no ]]>) in a text, < and " in a value, and white space in an item
 abbrev pub barred : Use → List ℕ
@@ -35,8 +35,8 @@ free bars (b ∷ bs) = not (among b bars) && free bars bs
 
 -- the bytes `raw`, written for a use, say exactly `value` to a reader
 pub record ReadsBack (u : Use) (raw value : List ℕ) : Type 0 where
-  pub reads : Reads u raw value
-  pub only : (other : List ℕ) → Reads u raw other → other ≡ value
+  pub reads : ReadFor u raw value
+  pub only : (other : List ℕ) → ReadFor u raw other → other ≡ value
   pub clean : free (barred u) raw ≡ true
 
 -- a value was escaped into bytes from `at` up to `end`: the escaped value stands there, everything else is as before,

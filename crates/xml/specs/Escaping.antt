@@ -51,3 +51,8 @@ piece chosen b = cond (chosen b) (replacement b) (b ∷ [])
 -- the bytes of a value with each chosen one replaced
 abbrev pub escaped : (ℕ → Bool) → List ℕ → List ℕ
 escaped chosen bs = joined (piece chosen) bs
+
+-- the laws of a rule, for one use: only bytes that have a replacement are chosen, and whatever the use asks for is
+pub record Lawful (u : Use) (chosen : ℕ → Bool) : Type 0 where
+  pub within : (b : ℕ) → chosen b ≡ true → nine b ≡ true
+  pub enough : (b : ℕ) → asked u b ≡ true → chosen b ≡ true

@@ -44,7 +44,7 @@ pub data CharData : List ℕ → List ℕ → Type 0 where
 abbrev pub value-byte : ℕ → ℕ
 value-byte b = cond (eqb b 9 || eqb b 10) 32 b
 
--- the inside of a value in double quotes (AttValue): no raw < or ", & only in a reference
+-- the inside of a value in double quotes (AttValue), its line ends handled before: no raw < or ", & only in a reference
 pub data AttValue : List ℕ → List ℕ → Type 0 where
   value-end : AttValue [] []
   value-raw : {b : ℕ} {raw value : List ℕ} → b ≢ 60 → b ≢ 38 → b ≢ 34 → AttValue raw value → AttValue (b ∷ raw) (value-byte b ∷ value)

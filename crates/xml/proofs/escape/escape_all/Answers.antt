@@ -1,6 +1,5 @@
-use Rattle.xml.specs.Escaping.{piece}
+use Rattle.xml.specs.Escaping.{piece, Lawful}
 use Rattle.xml.proofs.Pieces.{sofar-none, sofar-room, sofar-more, sofar-all}
-use Rattle.xml.proofs.Escapes.{Lawful}
 use Rattle.xml.proofs.Written.{writes}
 use Rattle.xml.proofs.escape.escape_all.Needs as need
 

@@ -1,0 +1,10 @@
+pub mod Tidy
+pub mod Bytewise
+pub mod Characters
+pub mod Scanner
+pub mod OneReading
+pub mod Sound
+pub mod Calm
+pub mod Written
+pub mod Levels
+pub mod Examples

@@ -1,0 +1,4 @@
+pub mod Trees
+pub mod Reader
+pub mod Laws
+pub mod Examples
