@@ -18,7 +18,7 @@ use Rattle.xml.specs.Escaping.{among, nine, asked, replacement, piece, escaped,
 use Rattle.xml.specs.Reading.{Reference, lt, gt, apos, amp, quot, tab, line-feed, carriage-return, space, lines}
 use Rattle.xml.specs.declared.escape.Use.{Use}
 use Rattle.xml.specs.declared.escape.Use.the-variants.{Text, Attribute, TextItem, AttributeItem}
-use Rattle.xml.proofs.Escapes.{nine-reference}
+use Rattle.xml.proofs.Nine.{nine-reference}
 use Rattle.reader.specs.Trees.{Bytes}
 use Rattle.reader.proofs.Bytewise.{Each, each, each-here, each-rest, each-more, each-++, each-weaker, among-all, apart}
 use Rattle.reader.proofs.Characters.{char-each, delimiters, name-plain, name-utf8}

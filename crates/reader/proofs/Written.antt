@@ -13,7 +13,7 @@ use Rattle.xml.specs.declared.escape.Use.the-variants.{Text, Attribute, TextIte
 use Rattle.xml.specs.Names.{Name}
 use Rattle.xml.specs.Escaping.{asked, must, replacement, piece, escaped, Lawful}
 use Rattle.xml.specs.Reading.{AttValue, value-end, value-raw, value-reference, value-byte}
-use Rattle.xml.proofs.Escapes.{nine-reference}
+use Rattle.xml.proofs.Nine.{nine-reference}
 use Rattle.reader.specs.Trees.{Bytes, Attributes, Nodes, done, Tree, empty, _▹_, before}
 use Rattle.reader.specs.Reader.{Attribs, attribs-end, attribs-more, Element, empty-tag, spaced-empty-tag, tags, Row, row-end, row-more, Reads, ReadsExactly}
 use Rattle.reader.proofs.Tidy.{_⊕_, ⊕-texts, alone}

@@ -2,67 +2,21 @@
 use mathlib.Core.Path.{_≡_, refl, sym, ap, subst, _∙_}
 use mathlib.Core.Bool.{Bool, true, false, cond, not, _&&_, _||_}
 use mathlib.Core.List.{List, [], _∷_, _++_}
-use mathlib.Core.Logic.{_≢_, _⊎_, inl, inr, ⊎-elim}
+use mathlib.Core.Logic.{_≢_}
 use Prim.Native.Nat.{ℕ}
-use native.Mathlib.Omega.{arith}
 use lib.Chars.{codes}
 use lib.Dec.{eqb}
 use Rattle.std.specs.declared.option.Option.{Option}
 use Rattle.std.specs.declared.option.Option.the-variants.{Some, None}
 use Rattle.std.specs.shelf.Text.{sameBytes}
-use Rattle.std.proofs.shelf.Tests.{and-from, and-parts, both-ways, eqb-true, eq-eqb, ne-eqb, eqb-false, not-from-false, not-true, or-cases, or-parts, and-left, and-right, cases-bool}
+use Rattle.std.proofs.shelf.Tests.{and-from, and-parts, ne-eqb, eqb-false, not-from-false, not-true, or-parts, and-left, and-right}
 use Rattle.xml.specs.declared.escape.Use.{Use}
 use Rattle.xml.specs.declared.escape.Use.the-variants.{Text, Attribute, TextItem, AttributeItem}
-use Rattle.xml.specs.Escaping.{among, nine, replacement, must, asked, piece, escaped, Lawful}
-use Rattle.xml.specs.Reading.{lines-after, lines, Reference, lt, gt, apos, amp, quot, tab, line-feed, carriage-return, space, begins, CharData, text-end, text-raw, text-reference, value-byte, AttValue, value-end, value-raw, value-reference}
+use Rattle.xml.specs.Escaping.{among, replacement, must, escaped, Lawful}
+use Rattle.xml.specs.Reading.{lines, Reference, lt, gt, apos, amp, quot, tab, line-feed, carriage-return, space, begins, CharData, text-end, text-raw, text-reference, value-byte, AttValue, value-end, value-raw, value-reference}
 use Rattle.xml.specs.Back.{barred, free, ReadsBack}
-
--- what holds of each byte of a list holds of any byte among them
-abbrev pub Each : (ℕ → Type 0) → List ℕ → Type 0
-Each P [] = Unit {0}
-Each P (x ∷ xs) = P x × Each P xs
-
-of-each : (P : ℕ → Type 0) (xs : List ℕ) (b : ℕ) → Each P xs → among b xs ≡ true → P b
-of-each P [] b each h = absurd (both-ways false refl h)
-of-each P (x ∷ xs) b each h = ⊎-elim (λ e. subst P (sym (eqb-true b x e)) (each .0)) (of-each P xs b (each .1)) (or-cases (eqb b x) (among b xs) h)
-
-of-nine : (P : ℕ → Type 0) (b : ℕ) → Each P (60 ∷ 62 ∷ 39 ∷ 38 ∷ 34 ∷ 9 ∷ 10 ∷ 13 ∷ 32 ∷ []) → nine b ≡ true → P b
-of-nine P b each h = of-each P (60 ∷ 62 ∷ 39 ∷ 38 ∷ 34 ∷ 9 ∷ 10 ∷ 13 ∷ 32 ∷ []) b each h
-
-pub nine-reference : (b : ℕ) → nine b ≡ true → Reference (replacement b) b
-nine-reference b h = of-nine (λ b. Reference (replacement b) b) b (lt, (gt, (apos, (amp, (quot, (tab, (line-feed, (carriage-return, (space, tt))))))))) h
-
--- every byte of xs is among ys
-abbrev pub inside : List ℕ → List ℕ → Bool
-inside [] ys = true
-inside (x ∷ xs) ys = among x ys && inside xs ys
-
-among-inside : (xs ys : List ℕ) (b : ℕ) → inside xs ys ≡ true → among b xs ≡ true → among b ys ≡ true
-among-inside [] ys b i h = absurd (both-ways false refl h)
-among-inside (x ∷ xs) ys b i h =
-    let p = and-parts (among x ys) (inside xs ys) i in
-    ⊎-elim (λ e. subst (λ z. among z ys ≡ true) (sym (eqb-true b x e)) (p .0)) (among-inside xs ys b (p .1)) (or-cases (eqb b x) (among b xs) h)
-
-free-++ : (bars cs bs : List ℕ) → free bars cs ≡ true → free bars bs ≡ true → free bars (cs ++ bs) ≡ true
-free-++ bars [] bs h k = k
-free-++ bars (c ∷ cs) bs h k = let p = and-parts (not (among c bars)) (free bars cs) h in and-from (not (among c bars)) (free bars (cs ++ bs)) (p .0) (free-++ bars cs bs (p .1) k)
-
-module _ {u : Use} {chosen : ℕ → Bool} (law : Lawful u chosen) where
-  -- a byte that is left raw is none of those that the use asks for
-  raw-is-none : (b : ℕ) (bars : List ℕ) → inside bars (must u) ≡ true → chosen b ≡ false → among b bars ≡ false
-  raw-is-none b bars i raw = ⊎-elim (λ h. absurd (both-ways (chosen b) raw (law .enough b (among-inside bars (must u) b i h)))) (λ h. h) (cases-bool (among b bars))
-
-  raw-is-not : (b x : ℕ) → among x (must u) ≡ true → chosen b ≡ false → b ≢ x
-  raw-is-not b x h raw e = both-ways (chosen b) raw (law .enough b (subst (λ z. among z (must u) ≡ true) (sym e) h))
-
-  -- bytes that the use asks for, and that no replacement holds, stand nowhere in what is written
-  pub free-escaped : (bars : List ℕ) → inside bars (must u) ≡ true → Each (λ b. free bars (replacement b) ≡ true) (60 ∷ 62 ∷ 39 ∷ 38 ∷ 34 ∷ 9 ∷ 10 ∷ 13 ∷ 32 ∷ []) → (value : List ℕ) → free bars (escaped chosen value) ≡ true
-  free-escaped bars i spared [] = refl
-  free-escaped bars i spared (b ∷ bs) = free-++ bars (piece chosen b) (escaped chosen bs) (one (chosen b) refl) (free-escaped bars i spared bs)
-    where
-      one : (t : Bool) → chosen b ≡ t → free bars (cond t (replacement b) (b ∷ [])) ≡ true
-      one true e = of-nine (λ b. free bars (replacement b) ≡ true) b spared (law .within b e)
-      one false e = and-from (not (among b bars)) true (not-from-false (among b bars) (raw-is-none b bars i e)) refl
+use Rattle.xml.proofs.Nine.{nine-reference, of-all, inside}
+use Rattle.xml.proofs.Free.{raw-is-none, raw-is-not, free-escaped}
 
 -- without a carriage return, line ends are as they were
 lines-same : (bs : List ℕ) → free (13 ∷ []) bs ≡ true → lines bs ≡ bs
@@ -92,12 +46,12 @@ module _ {u : Use} {chosen : ℕ → Bool} (law : Lawful u chosen) where
   text-back i (b ∷ bs) = one (chosen b) refl (text-back i bs)
     where
       asks : (x : ℕ) → among x (38 ∷ 60 ∷ 62 ∷ []) ≡ true → among x (must u) ≡ true
-      asks x = among-inside (38 ∷ 60 ∷ 62 ∷ []) (must u) x i
+      asks x = of-all (λ x. among x (must u)) (38 ∷ 60 ∷ 62 ∷ []) x i
 
       one : (t : Bool) → chosen b ≡ t → CharData (escaped chosen bs) bs → CharData (cond t (replacement b) (b ∷ []) ++ escaped chosen bs) (b ∷ bs)
       one true e rest = text-reference (nine-reference b (law .within b e)) rest
       one false e rest =
-          let none = and-from (not (among b (62 ∷ []))) (free (62 ∷ []) (escaped chosen bs)) (not-from-false (among b (62 ∷ [])) (raw-is-none law b (62 ∷ []) (and-from (among 62 (must u)) true (asks 62 refl) refl) e)) (free-escaped law (62 ∷ []) (and-from (among 62 (must u)) true (asks 62 refl) refl) (refl, (refl, (refl, (refl, (refl, (refl, (refl, (refl, (refl, tt))))))))) bs) in
+          let none = and-from (not (among b (62 ∷ []))) (free (62 ∷ []) (escaped chosen bs)) (not-from-false (among b (62 ∷ [])) (raw-is-none law b (62 ∷ []) (and-from (among 62 (must u)) true (asks 62 refl) refl) e)) (free-escaped law (62 ∷ []) (and-from (among 62 (must u)) true (asks 62 refl) refl) refl bs) in
           text-raw (raw-is-not law b 60 (asks 60 refl) e) (raw-is-not law b 38 (asks 38 refl) e) (no-section-end (b ∷ escaped chosen bs) none) rest
 
   value-back : inside (38 ∷ 60 ∷ 34 ∷ 9 ∷ 10 ∷ []) (must u) ≡ true → (value : List ℕ) → AttValue (escaped chosen value) value
@@ -105,7 +59,7 @@ module _ {u : Use} {chosen : ℕ → Bool} (law : Lawful u chosen) where
   value-back i (b ∷ bs) = one (chosen b) refl (value-back i bs)
     where
       asks : (x : ℕ) → among x (38 ∷ 60 ∷ 34 ∷ 9 ∷ 10 ∷ []) ≡ true → among x (must u) ≡ true
-      asks x = among-inside (38 ∷ 60 ∷ 34 ∷ 9 ∷ 10 ∷ []) (must u) x i
+      asks x = of-all (λ x. among x (must u)) (38 ∷ 60 ∷ 34 ∷ 9 ∷ 10 ∷ []) x i
 
       one : (t : Bool) → chosen b ≡ t → AttValue (escaped chosen bs) bs → AttValue (cond t (replacement b) (b ∷ []) ++ escaped chosen bs) (b ∷ bs)
       one true e rest = value-reference (nine-reference b (law .within b e)) rest
@@ -164,7 +118,7 @@ one-value c d = sym (scan-value d) ∙ scan-value c
 -- What is written for a use reads back, by the way that use is read.
 module _ {u : Use} {chosen : ℕ → Bool} (law : Lawful u chosen) (value : List ℕ) where
   raw-lines : inside (13 ∷ []) (must u) ≡ true → escaped chosen value ≡ lines (escaped chosen value)
-  raw-lines i = sym (lines-same (escaped chosen value) (free-escaped law (13 ∷ []) i (refl, (refl, (refl, (refl, (refl, (refl, (refl, (refl, (refl, tt))))))))) value))
+  raw-lines i = sym (lines-same (escaped chosen value) (free-escaped law (13 ∷ []) i refl value))
 
   text-reads : inside (38 ∷ 60 ∷ 62 ∷ []) (must u) ≡ true → inside (13 ∷ []) (must u) ≡ true → CharData (lines (escaped chosen value)) value
   text-reads i j = subst (λ raw. CharData raw value) (raw-lines j) (text-back law i value)
@@ -175,13 +129,13 @@ module _ {u : Use} {chosen : ℕ → Bool} (law : Lawful u chosen) (value : List
 pub reads-back : (u : Use) {chosen : ℕ → Bool} → Lawful u chosen → (value : List ℕ) → ReadsBack u (escaped chosen value) value
 reads-back Text law value =
     let back = text-reads law value refl refl in
-    record { reads = back; only = λ other. one-text back; clean = free-escaped law (barred Text) refl (refl, (refl, (refl, (refl, (refl, (refl, (refl, (refl, (refl, tt))))))))) value }
+    record { reads = back; only = λ other. one-text back; clean = free-escaped law (barred Text) refl refl value }
 reads-back Attribute law value =
     let back = value-reads law value refl refl in
-    record { reads = back; only = λ other. one-value back; clean = free-escaped law (barred Attribute) refl (refl, (refl, (refl, (refl, (refl, (refl, (refl, (refl, (refl, tt))))))))) value }
+    record { reads = back; only = λ other. one-value back; clean = free-escaped law (barred Attribute) refl refl value }
 reads-back TextItem law value =
     let back = text-reads law value refl refl in
-    record { reads = back; only = λ other. one-text back; clean = free-escaped law (barred TextItem) refl (refl, (refl, (refl, (refl, (refl, (refl, (refl, (refl, (refl, tt))))))))) value }
+    record { reads = back; only = λ other. one-text back; clean = free-escaped law (barred TextItem) refl refl value }
 reads-back AttributeItem law value =
     let back = value-reads law value refl refl in
-    record { reads = back; only = λ other. one-value back; clean = free-escaped law (barred AttributeItem) refl (refl, (refl, (refl, (refl, (refl, (refl, (refl, (refl, (refl, tt))))))))) value }
+    record { reads = back; only = λ other. one-value back; clean = free-escaped law (barred AttributeItem) refl refl value }
