@@ -68,4 +68,4 @@ indents-alone f i j m n r q cs h =
     let v = writer f i m in
     let w = writer f j n in
     let e = agree-accepted cs (answers v cs (new r)) (answers w cs (new q)) h in
-    record { marks = documents f (accepted-calls cs (answers v cs (new r))) idle; one = sink-layout v cs (new r); other = sink-layout w cs (new q) ∙ ap (λ x. layouts j (documents f x idle)) (sym e); by-the-calls = refl }
+    record { marks = documents f (accepted-calls cs (answers v cs (new r))) idle; one = sink-layout v cs (new r); other = sink-layout w cs (new q) ∙ ap (λ x. layouts j (documents f x idle)) (sym e); by-the-calls = refl; before-a-tag = λ k d. refl }

@@ -7,7 +7,7 @@ use Rattle.model.specs.Readings.{Readings}
 
 pub met-and-not-met : Met-and-not-met
 unfolding decodes encode
-met-and-not-met = (((refl, refl), ((refl, refl), ((refl, refl), ((refl, refl), ((refl, refl), ((refl, refl), ((refl, refl), ((refl, refl), ((refl, refl), tt))))))))), ((refl, refl), (refl, refl)), (refl, refl))
+met-and-not-met = (((refl, refl), ((refl, refl), ((refl, refl), ((refl, refl), ((refl, refl), ((refl, refl), ((refl, refl), ((refl, refl), ((refl, refl), tt))))))))), ((refl, refl), (refl, refl)), (refl, refl), (refl, refl), (refl, refl))
 
 pub readings : Readings
 unfolding decodes encode

@@ -4,6 +4,7 @@ use mathlib.Core.Path.{_≡_}
 use mathlib.Core.Bool.{true, false}
 use mathlib.Core.List.{List, [], _∷_, _++_}
 use Prim.Native.Nat.{ℕ, _+_, _<_, _≤_}
+use lib.Chars.{codes}
 use lib.ListN.{length, take}
 use Rattle.std.specs.Orderings.{Decides}
 use Rattle.std.specs.Text.{Utf8}
@@ -18,7 +19,7 @@ use Rattle.reader.specs.Trees.{Bytes, Tree}
 use Rattle.reader.specs.Reader.{Reads}
 use Rattle.model.specs.Strings.{utf8, whole}
 use Rattle.model.specs.Calls.{Call, Answer, accepted, refused}
-use Rattle.model.specs.Marks.{Mark, tag-byte, text-byte, lead}
+use Rattle.model.specs.Marks.{Mark, tag-byte, text-byte, lead, indent, bytes-of-mark}
 use Rattle.model.specs.Model.{State, idle}
 use Rattle.model.specs.Step.{step}
 use Rattle.model.specs.Layout.{stage, names, frames}
@@ -102,13 +103,14 @@ Agree (refused d ∷ qs) [] = ⊥
 Agree (refused d ∷ qs) (accepted ∷ rs) = ⊥
 Agree (refused d ∷ qs) (refused e ∷ rs) = Agree qs rs
 
--- both sinks hold the layouts of the same marks, one list for each record. In marks an indent and the `<` of the tag that it stands
--- directly before are one; and the marks, so also which tags have an indent, are those that the accepted calls alone write
+-- both sinks hold the layouts of the same marks, one list for each record; the marks, so also which tags have an indent, are those
+-- that the accepted calls alone write; and the mark of an indent is the indent with the `<` of the tag that it stands directly before
 pub record Same-marks (v w : Setting) (cs : List Call) (r q : ℕ) : Type 0 where
   pub marks : List (List Mark)
   pub one : sink-after v cs r ≡ layouts (v .indentation) marks
   pub other : sink-after w cs q ≡ layouts (w .indentation) marks
   pub by-the-calls : marks ≡ documents (v .form) (accepted-calls cs (answers-to v cs r)) idle
+  pub before-a-tag : (i : Option Indentation) (d : ℕ) → bytes-of-mark i (lead d) ≡ indent i d ++ codes "<"
 
 -- Indents alone: two new writers whose styles differ only in indentation, with any memory and any rooms, that answer alike
 abbrev pub Indents-alone : Type 0

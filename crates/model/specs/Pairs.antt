@@ -5,6 +5,7 @@ use mathlib.Core.Bool.{true, false}
 use mathlib.Core.List.{List, [], _∷_}
 use Prim.Native.Nat.{ℕ, zero, suc}
 use lib.Chars.{codes}
+use lib.ListN.{replicate}
 use Rattle.std.specs.declared.option.Option.the-variants.{Some, None}
 use Rattle.refusal.specs.declared.Refusal.{Refusal}
 use Rattle.refusal.specs.declared.Refusal.the-variants.{Order, Bytes as Bytes-at, Shape, RunOn, Name as Name-at, Stack, Depth, Stage, Sink}
@@ -112,6 +113,16 @@ abbrev pub Frames-used : Type 0
 Frames-used =
     (last-answer (over 100 20 100 (begun (call-field (codes "b") ∷ nested 63))) ≡ accepted) × (last-answer (over 100 20 100 (begun (call-field (codes "b") ∷ nested 64))) ≡ refused Depth)
 
+-- of 5,000 bytes lent for names, 4,096 are used: a name of so many fits, and one of a byte more does not
+abbrev pub Names-used : Type 0
+Names-used =
+    (last-answer (over 6000 5000 1 (call-open (replicate 4096 97) ∷ [])) ≡ accepted) × (last-answer (over 6000 5000 1 (call-open (replicate 4097 97) ∷ [])) ≡ refused Stack)
+
+-- of 70,000 bytes lent for the stage, 65,536 are used: `<a` and a text of 65,534 bytes fit, and a byte more does not
+abbrev pub Stage-used : Type 0
+Stage-used =
+    (last-answer (over 70000 20 1 (begun (call-field (codes "$text") ∷ string (replicate 65534 97) ∷ []))) ≡ accepted) × (last-answer (over 70000 20 1 (begun (call-field (codes "$text") ∷ string (replicate 65535 97) ∷ []))) ≡ refused Stage)
+
 -- each of the ten refusals is met, and is not met where its ground is removed
 abbrev pub Met-and-not-met : Type 0
-Met-and-not-met = Each Holds pairs × Styles-pair × Frames-used
+Met-and-not-met = Each Holds pairs × Styles-pair × Frames-used × Names-used × Stage-used
