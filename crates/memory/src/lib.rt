@@ -3,8 +3,9 @@
 ghost use mathlib.Core.Path.{_≡_};
 ghost use mathlib.Core.List.{_++_};
 ghost use Prim.Native.Nat.{_+_, _-_, _≤_};
-ghost use lib.ListN.{length, take, drop};
+ghost use lib.ListN.{length, take, drop, replicate};
 ghost use Rattle.memory.specs.Laid.{laid};
+ghost use Rattle.memory.specs.Opened.{shifted};
 
 /// Lays `src` over `out` from `at` on, and answers where it ends.
 pub fn lay(out: &mut [u8], at: usize, src: &[u8]) -> usize
@@ -16,6 +17,30 @@ pub fn lay(out: &mut [u8], at: usize, src: &[u8]) -> usize
     let end = at + src.len();
     out[at..end].copy_from_slice(src);
     end
+}
+
+/// Writes `byte` over `count` bytes of `out` from `at` on, and answers where they end.
+pub fn fill(out: &mut [u8], at: usize, count: usize, byte: u8) -> usize
+    requires { ⌜ at + count ≤ length (now out) ⌝ }
+    ensures end { λ r. ⌜ r ≡ at + count ⌝ }
+    ensures bytes { λ _. ⌜ now (out .exit) ≡ laid (now (out .entry)) at (replicate count byte) ⌝ }
+{
+    for i in 0..count {
+        out[at + i] = byte;
+    }
+    at + count
+}
+
+/// Moves the bytes from `from` up to `end` on by `by`, and answers where they end then.
+pub fn shift(out: &mut [u8], from: usize, end: usize, by: usize) -> usize
+    requires { ⌜ from ≤ end ⌝ ∗ ⌜ end + by ≤ length (now out) ⌝ }
+    ensures end { λ r. ⌜ r ≡ end + by ⌝ }
+    ensures bytes { λ _. ⌜ now (out .exit) ≡ shifted (now (out .entry)) from end by ⌝ }
+{
+    for i in (from..end).rev() {
+        out[i + by] = out[i];
+    }
+    end + by
 }
 
 /// One of the caller's byte slices. It has no invariant of its own, so that a struct that has one can lend it on.
@@ -48,6 +73,26 @@ impl Bytes<'_> {
         ensures len { λ _. ⌜ length (now (now (self .exit) .at)) ≡ length (now (now (self .entry) .at)) ⌝ }
     {
         lay(self.at, from, src)
+    }
+
+    /// Writes `byte` over `count` bytes from `from` on, and answers where they end.
+    pub fn fill(&mut self, from: usize, count: usize, byte: u8) -> usize
+        requires { ⌜ from + count ≤ length (now (now self .at)) ⌝ }
+        ensures end { λ r. ⌜ r ≡ from + count ⌝ }
+        ensures bytes { λ _. ⌜ now (now (self .exit) .at) ≡ laid (now (now (self .entry) .at)) from (replicate count byte) ⌝ }
+        ensures len { λ _. ⌜ length (now (now (self .exit) .at)) ≡ length (now (now (self .entry) .at)) ⌝ }
+    {
+        fill(self.at, from, count, byte)
+    }
+
+    /// Moves the bytes from `from` up to `end` on by `by`, and answers where they end then.
+    pub fn shift(&mut self, from: usize, end: usize, by: usize) -> usize
+        requires { ⌜ from ≤ end ⌝ ∗ ⌜ end + by ≤ length (now (now self .at)) ⌝ }
+        ensures end { λ r. ⌜ r ≡ end + by ⌝ }
+        ensures bytes { λ _. ⌜ now (now (self .exit) .at) ≡ shifted (now (now (self .entry) .at)) from end by ⌝ }
+        ensures len { λ _. ⌜ length (now (now (self .exit) .at)) ≡ length (now (now (self .entry) .at)) ⌝ }
+    {
+        shift(self.at, from, end, by)
     }
 
     pub fn part(&self, from: usize, end: usize) -> &[u8]

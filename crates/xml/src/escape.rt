@@ -132,7 +132,7 @@ fn escape_byte<R: EscapeRule>(out: &mut [u8], at: usize, byte: u8, rule: &R, tar
 }
 
 // All bytes of a value, where there is room for them.
-fn escape_all<R: EscapeRule>(
+pub fn escape_all<R: EscapeRule>(
     out: &mut [u8],
     at: usize,
     value: &[u8],

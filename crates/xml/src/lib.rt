@@ -11,6 +11,7 @@ pub use escape::QuoteLevelRule;
 pub use escape::Use;
 pub use escape::UseDebug;
 pub use escape::UsePartialEq;
+pub use escape::escape_all;
 pub use escape::escape_into;
 pub use escape::escaped_len;
 pub use name::XmlName;

@@ -1,0 +1,11 @@
+pub mod Appending
+pub mod Leads
+pub mod Inserting
+pub mod Fronts
+pub mod Settling
+pub mod Kids
+pub mod Spots
+pub mod Telling
+pub mod Values
+pub mod Tags
+pub mod Checking

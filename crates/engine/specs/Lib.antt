@@ -1,0 +1,4 @@
+pub mod Frames
+pub mod Memory
+pub mod Lays
+pub mod Checks
