@@ -9,3 +9,4 @@ pub mod Telling
 pub mod Values
 pub mod Tags
 pub mod Checking
+pub mod Tops

@@ -1,0 +1,30 @@
+use mathlib.Core.Path.{_≡_, refl, sym, ap, subst, _∙_}
+use mathlib.Core.Bool.{Bool, true, false, cond, not, _&&_, _||_}
+use mathlib.Core.List.{List, []}
+use Prim.Native.Nat.{ℕ}
+use native.Mathlib.Omega.{arith}
+use borrow.Author.Needs.{needs}
+use lib.ListN.{length}
+use Rattle.std.specs.declared.option.Option.the-variants.{Some}
+use Rattle.std.proofs.shelf.Lists.{nil-from-length}
+use Rattle.std.proofs.shelf.Tests.{and-left, and-right}
+use Rattle.style.specs.declared.result.WriteResult.the-variants.{SensitiveText, SensitiveNothing}
+use Rattle.xml.specs.declared.escape.Use.the-variants.{Text as text-use}
+use Rattle.xml.specs.Escaping.{escaped}
+use Rattle.model.specs.declared.place.Place.the-variants.{Content, Text, Simple}
+use Rattle.model.specs.Strings.{null}
+use Rattle.model.specs.Calls.{val-text, val-none, val-variant}
+use Rattle.model.specs.Step.{done, with-text}
+use Rattle.engine.specs.Memory.{mem, Safe}
+use Rattle.rows.specs.Pieces.{Writes}
+use Rattle.rows.proofs.Told.{well-formed-none}
+use Rattle.rows.proofs.Elemental.{escaped-by}
+use Rattle.rows.proofs.Wording.{content-silent, content-words, text-silent, text-words, simple-silent, simple-words, no-words}
+use Rattle.rows.proofs.words.none_at_content.Needs as need
+
+pub returns : need.returns
+returns c =
+    let w = mem (c .args .core .now) in
+    let at : w .place ≡ Content (c .args .allowed) = search needs in
+    let safe : Safe w = search needs in
+    record { does = λ room. content-silent val-none room w (mem (c .settle .last .self)) safe well-formed-none refl (c .args .allowed) at refl refl refl refl SensitiveNothing (λ rs l ls. refl) (c .settle .ensures .memory) }

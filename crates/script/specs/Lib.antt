@@ -1,0 +1,10 @@
+pub mod Cuts
+pub mod Escapes
+pub mod Pieces
+pub mod Numbers
+pub mod Words
+pub mod Settings
+pub mod Says
+pub mod Order
+pub mod Script
+pub mod Faults
