@@ -1,4 +1,6 @@
 // The values of attributes: a text, a variant's name, nothing, or a list of items, each put in at the end of the open tag.
+#![tactic(auto)]
+
 mod items;
 mod values;
 

@@ -1,4 +1,6 @@
 // The end of a record.
+#![tactic(auto)]
+
 mod record;
 
 pub use record::end_record;

@@ -1,4 +1,6 @@
 // The writer below its public face: what each call does to the memory that the caller lends.
+#![tactic(auto)]
+
 mod checks;
 mod frames;
 mod kernel;

@@ -1,4 +1,6 @@
 // What the key of a field does at the field place, and what an item does in a list that is a text.
+#![tactic(auto)]
+
 mod items;
 mod keys;
 

@@ -1,5 +1,7 @@
 // Bytes that a caller lends, and the stores into them that the other crates share.
 // The callers know that what they store fits; they ask the length first.
+#![tactic(auto)]
+
 ghost use Rattle.std.specs.Prelude.{◌≡◌, ◌+◌, ◌-◌, ◌≤◌, ◌++◌, length, take, drop, replicate};
 ghost use Rattle.memory.specs.Laid.{laid};
 ghost use Rattle.memory.specs.Opened.{shifted};

@@ -1,4 +1,6 @@
 // The meaning of records: what each call does, what it says, and the laws of whole runs.
+#![tactic(auto)]
+
 ghost use Rattle.model.specs.Sheets.{TenSheets};
 ghost use Rattle.model.specs.Pairs.{MetAndNotMet};
 ghost use Rattle.model.specs.Readings.{Readings};

@@ -1,4 +1,6 @@
 // What opens and closes: rows, lists and records, their ends, and the values of attributes.
+#![tactic(auto)]
+
 mod ends;
 mod rows;
 

@@ -1,4 +1,6 @@
 // Where each call goes: the writer's place and the call together decide what is written.
+#![tactic(auto)]
+
 mod calls;
 mod value;
 

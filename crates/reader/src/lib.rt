@@ -1,4 +1,6 @@
 // What bytes say to a reader of XML 1.0: trees of elements and texts. No code reads here; these functions carry what is proved.
+#![tactic(auto)]
+
 ghost use Rattle.reader.specs.Laws.{OneReading};
 ghost use Rattle.reader.specs.Examples.{ExampleReads, ExampleUnreadable};
 

@@ -1,4 +1,6 @@
 // Values at a content place that bring a name, and records at a value place.
+#![tactic(auto)]
+
 mod names;
 mod tags;
 mod variants;

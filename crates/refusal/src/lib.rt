@@ -1,4 +1,6 @@
 // The refusals: the one error type of every call, with the number, the offset and the word of each.
+#![tactic(auto)]
+
 ghost use Rattle.std.specs.Prelude.{◌≡◌, Some};
 ghost use Rattle.refusal.specs.Refusals.{number, offset, word, shows, ToldApart};
 

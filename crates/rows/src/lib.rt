@@ -1,4 +1,6 @@
 // What each call does at each place: one function for each row of the places.
+#![tactic(auto)]
+
 mod element;
 mod elements;
 mod roots;

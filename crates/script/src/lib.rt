@@ -1,4 +1,6 @@
 // Sheet scripts: text files of writer calls, one to a line, read line by line.
+#![tactic(auto)]
+
 mod cuts;
 mod escapes;
 mod fault;

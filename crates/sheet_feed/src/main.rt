@@ -1,4 +1,6 @@
 // Takes one trail name through the checks, the escaping and the sinks, and says at each step what happened.
+#![tactic(auto)]
+
 use sink::{BufferSink, PageSink, Sink};
 use std::io;
 use style::{EmptyElementHandling, Indentation, Style};

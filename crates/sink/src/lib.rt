@@ -1,4 +1,6 @@
 // Sinks: where finished records go, each at one stroke.
+#![tactic(auto)]
+
 mod buffer;
 mod page;
 mod paged;

@@ -1,4 +1,6 @@
 // How records are laid out: the form of empty tags, the indentation, and what a written value lets follow it.
+#![tactic(auto)]
+
 mod indentation;
 mod result;
 mod style;

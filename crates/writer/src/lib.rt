@@ -1,4 +1,6 @@
 // The writer: calls that put a record together in the caller's memory, and hand it to a sink whole.
+#![tactic(auto)]
+
 mod call;
 mod replay;
 mod sending;

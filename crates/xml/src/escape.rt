@@ -50,9 +50,9 @@ pub trait EscapeRule {
 impl EscapeRule for QuoteLevel {
     ghost chooses = { level_chooses };
 
-    ghost within = { Prim.search needs };
+    ghost within = { Prim.search rules };
 
-    ghost enough = { Prim.search needs };
+    ghost enough = { Prim.search rules };
 
     fn replaces(&self, target: Use, byte: u8) -> bool {
         asked_for(target, byte) | added_by(*self, byte)
@@ -102,7 +102,7 @@ fn replacement_of(byte: u8) -> &'static [u8]
 
 // How many bytes one byte takes.
 fn piece_len<R: EscapeRule>(byte: u8, rule: &R, target: Use) -> usize
-    ensures { result ≡ length (piece (chooses rule.now target) byte) }
+    ensures { result ≡ length (piece (R.chooses rule.now target) byte) }
 {
     if rule.replaces(target, byte) {
         replacement_of(byte).len()
@@ -113,7 +113,7 @@ fn piece_len<R: EscapeRule>(byte: u8, rule: &R, target: Use) -> usize
 
 /// How many bytes `escape_into` writes for a value; the largest `usize` where it would be more than that.
 pub fn escaped_len<R: EscapeRule>(value: &[u8], rule: &R, target: Use) -> usize
-    ensures value { result ≡ min (length (escaped (chooses rule.now target) value.now)) (2 ^ 64 - 1) }
+    ensures value { result ≡ min (length (escaped (R.chooses rule.now target) value.now)) (2 ^ 64 - 1) }
 {
     let mut len: usize = 0;
     for byte in value {
@@ -124,9 +124,9 @@ pub fn escaped_len<R: EscapeRule>(value: &[u8], rule: &R, target: Use) -> usize
 
 // One byte, as it is or replaced.
 fn escape_byte<R: EscapeRule>(out: &mut [u8], at: usize, byte: u8, rule: &R, target: Use) -> usize
-    requires { at + length (piece (chooses rule.now target) byte) ≤ length out.old }
-    ensures end { result ≡ at + length (piece (chooses rule.now target) byte) }
-    ensures bytes { out.new ≡ laid out.old at (piece (chooses rule.now target) byte) }
+    requires { at + length (piece (R.chooses rule.now target) byte) ≤ length out.old }
+    ensures end { result ≡ at + length (piece (R.chooses rule.now target) byte) }
+    ensures bytes { out.new ≡ laid out.old at (piece (R.chooses rule.now target) byte) }
 {
     if rule.replaces(target, byte) {
         lay(out, at, replacement_of(byte))
@@ -143,8 +143,8 @@ pub fn escape_all<R: EscapeRule>(
     rule: &R,
     target: Use,
 ) -> usize
-    requires { at + length (escaped (chooses rule.now target) value.now) ≤ length out.old }
-    ensures { Writes target (chooses rule.now target) value.now at result out.old out.new }
+    requires { at + length (escaped (R.chooses rule.now target) value.now) ≤ length out.old }
+    ensures { Writes target (R.chooses rule.now target) value.now at result out.old out.new }
 {
     let mut end = at;
     for byte in value {
@@ -163,7 +163,7 @@ pub fn escape_into<R: EscapeRule>(
     rule: &R,
     target: Use,
 ) -> Result<usize, Refusal>
-    ensures escapes { Escapes target (chooses rule.now target) value.now at result out.old out.new }
+    ensures escapes { Escapes target (R.chooses rule.now target) value.now at result out.old out.new }
 {
     let len = escaped_len(value, rule, target);
     if out.len() < at.saturating_add(len) {

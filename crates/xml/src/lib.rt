@@ -1,4 +1,6 @@
 // What XML asks of bytes: well-formed text, names, and escaping.
+#![tactic(auto)]
+
 mod escape;
 mod name;
 mod text;

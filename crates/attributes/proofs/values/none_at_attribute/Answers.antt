@@ -4,4 +4,4 @@ use Rattle.attributes.proofs.Valuing.{attribute_none}
 use Rattle.attributes.proofs.values.none_at_attribute.Goals as goal
 
 pub returns : goal.returns
-returns c = record { does = λ room. attribute_none room (mem c.args.core.now) (mem c.put-quote.new.core) c.put-quote.result (search rules) (search rules) c.put-quote.ensures.inserts }
+returns c = record { does = λ room. attribute_none room (mem c.args.core.now) (mem c.put_quote.new.core) c.put_quote.result (search rules) (search rules) c.put_quote.ensures.inserts }

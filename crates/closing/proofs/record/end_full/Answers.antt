@@ -5,12 +5,12 @@ use Rattle.closing.specs.Ends.{end_of}
 use Rattle.closing.proofs.Writing.{safe_shut}
 use Rattle.closing.proofs.record.end_full.Goals as goal
 
-pub append-end-requires : goal.append-end-requires
-append-end-requires c =
+pub append_end-requires : goal.append_end-requires
+append_end-requires c =
     let w = mem c.args.core.now in
-    let a = mem c.shut-tag.new.core in
+    let a = mem c.shut_tag.new.core in
     let tag = c.args.tag in
-    let e = c.shut-tag.ensures.memory in
+    let e = c.shut_tag.ensures.memory in
     let now-safe : Safe w = search rules in
     let safe : Safe a = safe_shut w a tag e (omega arith) (omega arith) now-safe in
     let depth : a.frames.used ≡ w.frames.used = ap (λ x. x.frames.used) e in

@@ -13,7 +13,7 @@ returns-then-top-core c =
     let t = c.top-top.result in
     let safe : Safe w = search rules in
     let at : w.place ≡ Field = search rules in
-    record { does = λ room. end_does room w (mem c.end-full.new.core) c.end-full.result 1 (end_of w t.from) (stage_shut t.tag w) safe at (λ l ls h. shuts_full w l ls t c.top-top.ensures.value h (omega arith)) c.end-full.ensures.ends }
+    record { does = λ room. end_does room w (mem c.end_full.new.core) c.end_full.result 1 (end_of w t.from) (stage_shut t.tag w) safe at (λ l ls h. shuts_full w l ls t c.top-top.ensures.value h (omega arith)) c.end_full.ensures.ends }
 
 pub returns-else-top-core : goal.returns-else-top-core
 returns-else-top-core c =
@@ -21,4 +21,4 @@ returns-else-top-core c =
     let t = c.top-top.result in
     let safe : Safe w = search rules in
     let at : w.place ≡ Field = search rules in
-    record { does = λ room. end_does room w (mem c.end-empty.new.core) c.end-empty.result 0 (shut w.form (name_of w t.from)) w.stage safe at (λ l ls h. shuts_empty w l ls t c.top-top.ensures.value h (omega arith)) c.end-empty.ensures.ends }
+    record { does = λ room. end_does room w (mem c.end_empty.new.core) c.end_empty.result 0 (shut w.form (name_of w t.from)) w.stage safe at (λ l ls h. shuts_empty w l ls t c.top-top.ensures.value h (omega arith)) c.end_empty.ensures.ends }

@@ -11,15 +11,15 @@ use Rattle.fields.proofs.items.write_item.Goals as goal
 pub returns-else-value-eq0 : goal.returns-else-value-eq0
 returns-else-value-eq0 g c =
     let w = mem c.args.core.now in
-    let v = mem c.append-item.new.core in
+    let v = mem c.append_item.new.core in
     let s = c.args.value.now in
     let t = c.args.written in
     let at : w.place ≡ TextItem t = search rules in
     let safe : Safe w = search rules in
-    let res = c.append-item.result in
+    let res = c.append_item.result in
     let chosen = g.R.EscapeRule.chooses c.args.rule.now in
     record {
       does = λ room r item e is.
           item_told item r s is room t w v at safe c.in-Ok.ensures.checked c.if-value-eq0.false res
-          (subst (λ x. Adds res (gap t ++ x) w v) (escaped_by r chosen text_item_use s e) c.append-item.ensures.adds);
+          (subst (λ x. Adds res (gap t ++ x) w v) (escaped_by r chosen text_item_use s e) c.append_item.ensures.adds);
     }

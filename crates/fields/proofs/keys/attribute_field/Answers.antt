@@ -5,8 +5,8 @@ use Rattle.engine.specs.Memory.{mem}
 use Rattle.fields.proofs.AttributeKeys.{behind_at, fault_within, attribute_key_full, attribute_key}
 use Rattle.fields.proofs.keys.attribute_field.Goals as goal
 
-pub check-name-requires : goal.check-name-requires
-check-name-requires c = behind_at c.args.name.now c.requires.1
+pub check_name-requires : goal.check_name-requires
+check_name-requires c = behind_at c.args.name.now c.requires.1
 
 pub overflow-add-result : goal.overflow-add-result
 overflow-add-result c =

@@ -6,8 +6,8 @@ use Rattle.engine.specs.Memory.{mem}
 use Rattle.engine.specs.Lays.{Does}
 use Rattle.fields.proofs.keys.field.Goals as goal
 
-pub attribute-field-requires : goal.attribute-field-requires
-attribute-field-requires c =
+pub attribute_field-requires : goal.attribute_field-requires
+attribute_field-requires c =
     let k = c.args.key.now in
     let same : k ≡ 64 ∷ take (length k - 1) (drop 1 k) = search (rules, first_rest) in
     (search rules, subst (λ x. utf8 x ≡ true) same c.in-Ok.ensures.checked)
@@ -16,6 +16,6 @@ pub returns-in-64 : goal.returns-in-64
 returns-in-64 c =
     let k = c.args.key.now in
     let w = mem c.args.core.now in
-    let v = mem c.attribute-field.new.core in
+    let v = mem c.attribute_field.new.core in
     let same : k ≡ 64 ∷ take (length k - 1) (drop 1 k) = search (rules, first_rest) in
-    record { does = λ room. subst (λ x. Does (call_field x) room c.attribute-field.result w v) (sym same) (c.attribute-field.ensures.does room) }
+    record { does = λ room. subst (λ x. Does (call_field x) room c.attribute_field.result w v) (sym same) (c.attribute_field.ensures.does room) }

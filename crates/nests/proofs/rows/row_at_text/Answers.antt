@@ -5,4 +5,4 @@ use Rattle.nests.proofs.rows.row_at_text.Goals as goal
 
 pub returns : goal.returns
 returns c =
-    record { does = λ room m lay. text_list room m (mem c.args.core.now) (mem c.take-frame.new.core) c.take-frame.result (search rules) lay c.list-frame.result (search rules) c.list-frame.ensures.value c.take-frame.ensures.pushes }
+    record { does = λ room m lay. text_list room m (mem c.args.core.now) (mem c.take_frame.new.core) c.take_frame.result (search rules) lay c.list_frame.result (search rules) c.list_frame.ensures.value c.take_frame.ensures.pushes }

@@ -19,8 +19,8 @@ returns-then-len-core c =
 pub returns-else-len-core : goal.returns-else-len-core
 returns-else-len-core c =
     let w = mem c.args.core.now in
-    let x = mem c.push-name.new.self in
+    let x = mem c.push_name.new.self in
     record {
       does = λ room. variants_ok room w (placed (Element w.names.used) (mem c.push.new.self)) c.args.name.now c.args.texts (search rules) (search rules) (search rules) (search rules) c.top-top.result.flag x c.in-Ok.ensures.named (omega arith)
-          (ap (λ f. f.flag) c.top-top.ensures.value) c.push-name.ensures.memory (ap (placed (Element w.names.used)) (c.push.ensures.memory ∙ ap (λ f. pushed f x) c.named-frame-frame.ensures.value));
+          (ap (λ f. f.flag) c.top-top.ensures.value) c.push_name.ensures.memory (ap (placed (Element w.names.used)) (c.push.ensures.memory ∙ ap (λ f. pushed f x) c.named_frame-frame.ensures.value));
     }

@@ -18,4 +18,4 @@ returns-then-not-texts c =
 
 pub returns-else-not-texts : goal.returns-else-not-texts
 returns-else-not-texts c =
-    record { does = λ room. variants_list room (mem c.args.core.now) (mem c.take-frame.new.core) c.args.name.now c.args.texts (search rules) (search rules) c.in-Ok.ensures.checked c.take-frame.result c.list-frame.result (search rules) (search rules) c.list-frame.ensures.value c.take-frame.ensures.pushes }
+    record { does = λ room. variants_list room (mem c.args.core.now) (mem c.take_frame.new.core) c.args.name.now c.args.texts (search rules) (search rules) c.in-Ok.ensures.checked c.take_frame.result c.list_frame.result (search rules) (search rules) c.list_frame.ensures.value c.take_frame.ensures.pushes }

@@ -15,6 +15,6 @@ pub returns-in-Ok : goal.returns-in-Ok
 returns-in-Ok c =
     let w = mem c.args.core.now in
     record {
-      does = λ room. wrapped_ok room w (placed (Element w.names.used) (mem c.push-name.new.self)) c.args.name.now c.args.texts (search rules) (search rules) (search rules) (search rules) c.in-Ok.ensures.named
-          (ap (placed (Element w.names.used)) c.push-name.ensures.memory);
+      does = λ room. wrapped_ok room w (placed (Element w.names.used) (mem c.push_name.new.self)) c.args.name.now c.args.texts (search rules) (search rules) (search rules) (search rules) c.in-Ok.ensures.named
+          (ap (placed (Element w.names.used)) c.push_name.ensures.memory);
     }

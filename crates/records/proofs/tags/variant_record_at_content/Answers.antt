@@ -10,9 +10,9 @@ returns-in-Err c =
     let told = c.in-Err.ensures.checked in
     record { does = λ room. content_ill_formed (val_variant_record c.args.name.now) room (mem c.args.core.now) c.in-Err.refusal told.0 told.1 c.args.texts (search rules) }
 
-pub returns-then-is-text-name : goal.returns-then-is-text-name
-returns-then-is-text-name c =
-    record { does = λ room. variant_record_shape room (mem c.args.core.now) c.args.name.now c.args.texts (search rules) (search rules) c.in-Ok.ensures.checked (sym c.is-text-name.ensures.value ∙ c.if-is-text-name.true) }
+pub returns-then-is_text_name : goal.returns-then-is_text_name
+returns-then-is_text_name c =
+    record { does = λ room. variant_record_shape room (mem c.args.core.now) c.args.name.now c.args.texts (search rules) (search rules) c.in-Ok.ensures.checked (sym c.is_text_name.ensures.value ∙ c.if-is_text_name.true) }
 
-pub returns-else-is-text-name : goal.returns-else-is-text-name
-returns-else-is-text-name c = record { does = λ room. c.enter.ensures.does room (val_variant_record c.args.name.now) (inr (refl, sym c.is-text-name.ensures.value ∙ c.if-is-text-name.false)) }
+pub returns-else-is_text_name : goal.returns-else-is_text_name
+returns-else-is_text_name c = record { does = λ room. c.enter.ensures.does room (val_variant_record c.args.name.now) (inr (refl, sym c.is_text_name.ensures.value ∙ c.if-is_text_name.false)) }

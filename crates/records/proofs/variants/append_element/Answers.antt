@@ -4,8 +4,8 @@ use Rattle.rows.proofs.Written.{empty_length}
 use Rattle.records.proofs.Varying.{same_end, element_written}
 use Rattle.records.proofs.variants.append_element.Goals as goal
 
-pub append-start-requires : goal.append-start-requires
-append-start-requires c =
+pub append_start-requires : goal.append_start-requires
+append_start-requires c =
     let w = mem c.args.core.now in
     let l = empty_length w c.args.name.now in
     search rules
@@ -14,19 +14,19 @@ pub append-requires : goal.append-requires
 append-requires c =
     let w = mem c.args.core.now in
     let l = empty_length w c.args.name.now in
-    omega (arith, c.append-start.ensures.used, c.append-start.ensures.len)
+    omega (arith, c.append_start.ensures.used, c.append_start.ensures.len)
 
-pub append-end-requires : goal.append-end-requires
-append-end-requires c =
+pub append_end-requires : goal.append_end-requires
+append_end-requires c =
     let w = mem c.args.core.now in
     let n = c.args.name.now in
     let l = empty_length w n in
-    let s = ap length (same_end w (mem c.append-start.new.core) (mem c.append.new.self) n c.append-start.ensures.memory c.append.ensures.memory) in
-    omega (arith, c.append-start.ensures.used, c.append-start.ensures.len, c.append.ensures.used, c.append.ensures.len)
+    let s = ap length (same_end w (mem c.append_start.new.core) (mem c.append.new.self) n c.append_start.ensures.memory c.append.ensures.memory) in
+    omega (arith, c.append_start.ensures.used, c.append_start.ensures.len, c.append.ensures.used, c.append.ensures.len)
 
 pub returns : goal.returns
 returns c =
     let w = mem c.args.core.now in
     let n = c.args.name.now in
     let l = empty_length w n in
-    record { memory = element_written w (mem c.append-start.new.core) (mem c.append.new.self) (mem c.append-end.new.core) n (omega arith) c.append-start.ensures.memory c.append.ensures.memory c.append-end.ensures.memory }
+    record { memory = element_written w (mem c.append_start.new.core) (mem c.append.new.self) (mem c.append_end.new.core) n (omega arith) c.append_start.ensures.memory c.append.ensures.memory c.append_end.ensures.memory }

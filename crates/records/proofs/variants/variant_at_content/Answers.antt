@@ -10,14 +10,14 @@ returns-in-Err c =
     let told = c.in-Err.ensures.checked in
     record { does = λ room ρ. content_ill_formed (val_variant ρ c.args.name.now) room (mem c.args.core.now) c.in-Err.refusal told.0 told.1 c.args.texts (search rules) }
 
-pub returns-then-is-text-name : goal.returns-then-is-text-name
-returns-then-is-text-name c =
-    record { does = λ room ρ. variant_silent room ρ c.args.name.now c.args.texts (mem c.args.core.now) (search rules) (search rules) c.in-Ok.ensures.checked (mem c.settle.new.self) (sym c.is-text-name.ensures.value ∙ c.if-is-text-name.true) c.settle.ensures.memory }
+pub returns-then-is_text_name : goal.returns-then-is_text_name
+returns-then-is_text_name c =
+    record { does = λ room ρ. variant_silent room ρ c.args.name.now c.args.texts (mem c.args.core.now) (search rules) (search rules) c.in-Ok.ensures.checked (mem c.settle.new.self) (sym c.is_text_name.ensures.value ∙ c.if-is_text_name.true) c.settle.ensures.memory }
 
-pub returns-in-Err-check-name : goal.returns-in-Err-check-name
-returns-in-Err-check-name c =
-    record { does = λ room ρ. variant_misnamed room ρ c.args.name.now c.args.texts (mem c.args.core.now) (search rules) (search rules) c.in-Ok.ensures.checked (sym c.is-text-name.ensures.value ∙ c.if-is-text-name.false) c.in-Err-check-name.fault c.in-Err-check-name.ensures.checked }
+pub returns-in-Err-check_name : goal.returns-in-Err-check_name
+returns-in-Err-check_name c =
+    record { does = λ room ρ. variant_misnamed room ρ c.args.name.now c.args.texts (mem c.args.core.now) (search rules) (search rules) c.in-Ok.ensures.checked (sym c.is_text_name.ensures.value ∙ c.if-is_text_name.false) c.in-Err-check_name.fault c.in-Err-check_name.ensures.checked }
 
-pub returns-in-Ok-check-name : goal.returns-in-Ok-check-name
-returns-in-Ok-check-name c =
-    record { does = λ room ρ. variant_told room ρ c.args.name.now c.args.texts (mem c.args.core.now) (search rules) (search rules) c.in-Ok.ensures.checked (sym c.is-text-name.ensures.value ∙ c.if-is-text-name.false) (mem c.write-element.new.core) c.write-element.result c.in-Ok-check-name.ensures.checked c.write-element.ensures.writes }
+pub returns-in-Ok-check_name : goal.returns-in-Ok-check_name
+returns-in-Ok-check_name c =
+    record { does = λ room ρ. variant_told room ρ c.args.name.now c.args.texts (mem c.args.core.now) (search rules) (search rules) c.in-Ok.ensures.checked (sym c.is_text_name.ensures.value ∙ c.if-is_text_name.false) (mem c.write_element.new.core) c.write_element.result c.in-Ok-check_name.ensures.checked c.write_element.ensures.writes }

@@ -14,14 +14,14 @@ pub returns-then-room-need : goal.returns-then-room-need
 returns-then-room-need c =
     let n = c.args.name.now in
     let l = empty_length (mem c.args.core.now) n in
-    let s = c.shut-len.ensures.value n refl in
+    let s = c.shut_len.ensures.value n refl in
     record { writes = (refl, refl, omega arith) }
 
-pub append-element-requires : goal.append-element-requires
-append-element-requires c =
+pub append_element-requires : goal.append_element-requires
+append_element-requires c =
     let n = c.args.name.now in
     let l = empty_length (mem c.args.core.now) n in
-    let s = c.shut-len.ensures.value n refl in
+    let s = c.shut_len.ensures.value n refl in
     search rules
 
 pub returns : goal.returns
@@ -29,5 +29,5 @@ returns c =
     let w = mem c.args.core.now in
     let n = c.args.name.now in
     let l = empty_length w n in
-    let s = c.shut-len.ensures.value n refl in
-    record { writes = (omega arith, element_settled w (mem c.append-element.new.core) (mem c.settle.new.self) (empty_bytes w n) c.append-element.ensures.memory c.settle.ensures.memory) }
+    let s = c.shut_len.ensures.value n refl in
+    record { writes = (omega arith, element_settled w (mem c.append_element.new.core) (mem c.settle.new.self) (empty_bytes w n) c.append_element.ensures.memory c.settle.ensures.memory) }

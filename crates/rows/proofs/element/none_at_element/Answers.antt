@@ -11,4 +11,4 @@ returns c =
     let w = mem c.args.core.now in
     let at : w.place ≡ Element c.args.from = search rules in
     let safe : Safe w = search rules in
-    record { does = λ room. element_empty val_none room c.args.from w (mem c.write-empty.new.core) c.write-empty.result at safe well_formed_none refl refl (λ f d rs b u n. refl) c.write-empty.ensures.writes }
+    record { does = λ room. element_empty val_none room c.args.from w (mem c.write_empty.new.core) c.write_empty.result at safe well_formed_none refl refl (λ f d rs b u n. refl) c.write_empty.ensures.writes }

@@ -24,7 +24,7 @@ returns-then-value-eq0 g c =
     let at : w.place ≡ Element c.args.from = search rules in
     let safe : Safe w = search rules in
     let fine = c.in-Ok.ensures.checked in
-    record { does = λ room ρ e. element_empty (val_text ρ s) room c.args.from w (mem c.write-empty.new.core) c.write-empty.result at safe fine refl refl (text_none ρ s c.if-value-eq0.true) c.write-empty.ensures.writes }
+    record { does = λ room ρ e. element_empty (val_text ρ s) room c.args.from w (mem c.write_empty.new.core) c.write_empty.result at safe fine refl refl (text_none ρ s c.if-value-eq0.true) c.write_empty.ensures.writes }
 
 pub returns-else-value-eq0 : goal.returns-else-value-eq0
 returns-else-value-eq0 g c =
@@ -34,9 +34,9 @@ returns-else-value-eq0 g c =
     let safe : Safe w = search rules in
     let fine = c.in-Ok.ensures.checked in
     let chosen = g.R.EscapeRule.chooses c.args.rule.now in
-    let v = mem c.write-text.new.core in
+    let v = mem c.write_text.new.core in
     record {
       does = λ room ρ e.
-          element_text (val_text ρ s) room c.args.from w v c.write-text.result at safe (escaped (ρ.chooses text_use) s) fine refl refl (text_some ρ s c.if-value-eq0.false)
-          (subst (λ x. Writes c.write-text.result (text_bytes w (name_of w c.args.from) x) element_result false w v) (escaped_by ρ chosen text_use s e) c.write-text.ensures.writes);
+          element_text (val_text ρ s) room c.args.from w v c.write_text.result at safe (escaped (ρ.chooses text_use) s) fine refl refl (text_some ρ s c.if-value-eq0.false)
+          (subst (λ x. Writes c.write_text.result (text_bytes w (name_of w c.args.from) x) element_result false w v) (escaped_by ρ chosen text_use s e) c.write_text.ensures.writes);
     }

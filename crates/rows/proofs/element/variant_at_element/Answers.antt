@@ -17,26 +17,26 @@ returns-in-Err g c =
     let told = c.in-Err.ensures.checked in
     record { does = λ room ρ e. element_ill_formed (val_variant ρ c.args.value.now) room c.args.from w w (Err c.in-Err.refusal) at safe c.in-Err.refusal told.0 told.1 }
 
-pub returns-then-is-text-name : goal.returns-then-is-text-name
-returns-then-is-text-name g c =
+pub returns-then-is_text_name : goal.returns-then-is_text_name
+returns-then-is_text_name g c =
     let w = mem c.args.core.now in
     let s = c.args.value.now in
     let at : w.place ≡ Element c.args.from = search rules in
     let safe : Safe w = search rules in
     let fine = c.in-Ok.ensures.checked in
-    record { does = λ room ρ e. element_empty (val_variant ρ s) room c.args.from w (mem c.write-empty.new.core) c.write-empty.result at safe fine refl refl (variant_none ρ s (sym c.is-text-name.ensures.value ∙ c.if-is-text-name.true)) c.write-empty.ensures.writes }
+    record { does = λ room ρ e. element_empty (val_variant ρ s) room c.args.from w (mem c.write_empty.new.core) c.write_empty.result at safe fine refl refl (variant_none ρ s (sym c.is_text_name.ensures.value ∙ c.if-is_text_name.true)) c.write_empty.ensures.writes }
 
-pub returns-else-is-text-name : goal.returns-else-is-text-name
-returns-else-is-text-name g c =
+pub returns-else-is_text_name : goal.returns-else-is_text_name
+returns-else-is_text_name g c =
     let w = mem c.args.core.now in
     let s = c.args.value.now in
     let at : w.place ≡ Element c.args.from = search rules in
     let safe : Safe w = search rules in
     let fine = c.in-Ok.ensures.checked in
     let chosen = g.R.EscapeRule.chooses c.args.rule.now in
-    let v = mem c.write-text.new.core in
+    let v = mem c.write_text.new.core in
     record {
       does = λ room ρ e.
-          element_text (val_variant ρ s) room c.args.from w v c.write-text.result at safe (escaped (ρ.chooses text_use) s) fine refl refl (variant_some ρ s (sym c.is-text-name.ensures.value ∙ c.if-is-text-name.false))
-          (subst (λ x. Writes c.write-text.result (text_bytes w (name_of w c.args.from) x) element_result false w v) (escaped_by ρ chosen text_use s e) c.write-text.ensures.writes);
+          element_text (val_variant ρ s) room c.args.from w v c.write_text.result at safe (escaped (ρ.chooses text_use) s) fine refl refl (variant_some ρ s (sym c.is_text_name.ensures.value ∙ c.if-is_text_name.false))
+          (subst (λ x. Writes c.write_text.result (text_bytes w (name_of w c.args.from) x) element_result false w v) (escaped_by ρ chosen text_use s e) c.write_text.ensures.writes);
     }

@@ -9,33 +9,33 @@ use Rattle.rows.specs.Pieces.{lead_of, name_of, empty_bytes, open_bytes, close_b
 use Rattle.rows.proofs.Written.{name_length, close_length, open_length, empty_length, text_length, around_name, after, empty_written, shut_after, text_written}
 use Rattle.rows.proofs.elements.append_empty.Goals as goal
 
-pub append-start-requires : goal.append-start-requires
-append-start-requires c =
+pub append_start-requires : goal.append_start-requires
+append_start-requires c =
     let w = mem c.args.core.now in
     let from = c.args.from in
     let n = name_length w from w.names.used (omega arith) (omega arith) in
     let l = empty_length w (name_of w from) in
     search rules
 
-pub append-name-requires : goal.append-name-requires
-append-name-requires c =
+pub append_name-requires : goal.append_name-requires
+append_name-requires c =
     let w = mem c.args.core.now in
     let from = c.args.from in
     let n = name_length w from w.names.used (omega arith) (omega arith) in
     let l = empty_length w (name_of w from) in
-    let x = after w (mem c.append-start.new.core) (lead_of w) c.append-start.ensures.memory (omega arith) in
+    let x = after w (mem c.append_start.new.core) (lead_of w) c.append_start.ensures.memory (omega arith) in
     search rules
 
-pub append-shut-requires : goal.append-shut-requires
-append-shut-requires c =
+pub append_shut-requires : goal.append_shut-requires
+append_shut-requires c =
     let w = mem c.args.core.now in
     let from = c.args.from in
     let n = name_length w from w.names.used (omega arith) (omega arith) in
     let l = empty_length w (name_of w from) in
-    let a = mem c.append-start.new.core in
-    let b = mem c.append-name.new.self in
-    let x = after w a (lead_of w) c.append-start.ensures.memory (omega arith) in
-    let s = shut_after w a b from c.append-start.ensures.memory c.append-name.ensures.memory in
+    let a = mem c.append_start.new.core in
+    let b = mem c.append_name.new.self in
+    let x = after w a (lead_of w) c.append_start.ensures.memory (omega arith) in
+    let s = shut_after w a b from c.append_start.ensures.memory c.append_name.ensures.memory in
     search rules
 
 pub returns : goal.returns
@@ -44,4 +44,4 @@ returns c =
     let from = c.args.from in
     let n = name_length w from w.names.used (omega arith) (omega arith) in
     let l = empty_length w (name_of w from) in
-    record { memory = empty_written w (mem c.append-start.new.core) (mem c.append-name.new.self) (mem c.append-shut.new.core) from (omega arith) c.append-start.ensures.memory c.append-name.ensures.memory c.append-shut.ensures.memory }
+    record { memory = empty_written w (mem c.append_start.new.core) (mem c.append_name.new.self) (mem c.append_shut.new.core) from (omega arith) c.append_start.ensures.memory c.append_name.ensures.memory c.append_shut.ensures.memory }

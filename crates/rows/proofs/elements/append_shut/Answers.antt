@@ -9,8 +9,8 @@ use Rattle.rows.specs.Pieces.{lead_of, name_of, empty_bytes, open_bytes, close_b
 use Rattle.rows.proofs.Written.{name_length, close_length, open_length, empty_length, text_length, around_name, after, empty_written, shut_after, text_written}
 use Rattle.rows.proofs.elements.append_shut.Goals as goal
 
-pub append-close-requires : goal.append-close-requires
-append-close-requires c =
+pub append_close-requires : goal.append_close-requires
+append_close-requires c =
     let w = mem c.args.core.now in
     let from = c.args.from in
     let n = name_length w from w.names.used (omega arith) (omega arith) in
@@ -28,5 +28,5 @@ returns-in-Expanded c =
     let s = ap (λ f. length (shut f (name_of w from))) c.in-Expanded.is in
     let fits : w.stage.used + (1 + length (close_bytes (name_of w from))) ≤ length w.stage.all = omega arith in
     record {
-      memory = c.append-close.ensures.memory ∙ ap (λ x. appended (close_bytes (name_of x from)) x) c.append-in-Expanded.ensures.memory ∙ appended-++ w (codes ">") (close_bytes (name_of w from)) fits ∙ ap (λ f. appended (shut f (name_of w from)) w) (sym c.in-Expanded.is);
+      memory = c.append_close.ensures.memory ∙ ap (λ x. appended (close_bytes (name_of x from)) x) c.append-in-Expanded.ensures.memory ∙ appended-++ w (codes ">") (close_bytes (name_of w from)) fits ∙ ap (λ f. appended (shut f (name_of w from)) w) (sym c.in-Expanded.is);
     }

@@ -15,16 +15,16 @@ returns-then-room-need c =
     let from = c.args.from in
     let n = name_length w from w.names.used (omega arith) (omega arith) in
     let l = empty_length w (name_of w from) in
-    let s = c.shut-len.ensures.value (name_of w from) n in
+    let s = c.shut_len.ensures.value (name_of w from) n in
     record { writes = (refl, refl, omega arith) }
 
-pub append-empty-requires : goal.append-empty-requires
-append-empty-requires c =
+pub append_empty-requires : goal.append_empty-requires
+append_empty-requires c =
     let w = mem c.args.core.now in
     let from = c.args.from in
     let n = name_length w from w.names.used (omega arith) (omega arith) in
     let l = empty_length w (name_of w from) in
-    let s = c.shut-len.ensures.value (name_of w from) n in
+    let s = c.shut_len.ensures.value (name_of w from) n in
     search rules
 
 pub returns : goal.returns
@@ -33,5 +33,5 @@ returns c =
     let from = c.args.from in
     let n = name_length w from w.names.used (omega arith) (omega arith) in
     let l = empty_length w (name_of w from) in
-    let s = c.shut-len.ensures.value (name_of w from) n in
-    record { writes = (omega arith, c.settle.ensures.memory ∙ ap (λ x. settled element_result (worded false x)) c.append-empty.ensures.memory) }
+    let s = c.shut_len.ensures.value (name_of w from) n in
+    record { writes = (omega arith, c.settle.ensures.memory ∙ ap (λ x. settled element_result (worded false x)) c.append_empty.ensures.memory) }

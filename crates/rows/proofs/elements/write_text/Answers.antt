@@ -31,8 +31,8 @@ returns-then-room-need g c =
     let o = open_length w (name_of w from) in
     record { writes = (refl, refl, omega arith) }
 
-pub append-open-requires : goal.append-open-requires
-append-open-requires g c =
+pub append_open-requires : goal.append_open-requires
+append_open-requires g c =
     let w = mem c.args.core.now in
     let from = c.args.from in
     let n = name_length w from w.names.used (omega arith) (omega arith) in
@@ -42,8 +42,8 @@ append-open-requires g c =
     let o = open_length w (name_of w from) in
     search rules
 
-pub append-escaped-requires : goal.append-escaped-requires
-append-escaped-requires g c =
+pub append_escaped-requires : goal.append_escaped-requires
+append_escaped-requires g c =
     let w = mem c.args.core.now in
     let from = c.args.from in
     let n = name_length w from w.names.used (omega arith) (omega arith) in
@@ -53,8 +53,8 @@ append-escaped-requires g c =
     let o = open_length w (name_of w from) in
     omega arith
 
-pub append-close-requires : goal.append-close-requires
-append-close-requires g c =
+pub append_close-requires : goal.append_close-requires
+append_close-requires g c =
     let w = mem c.args.core.now in
     let from = c.args.from in
     let n = name_length w from w.names.used (omega arith) (omega arith) in
@@ -62,10 +62,10 @@ append-close-requires g c =
     let l = text_length w (name_of w from) s in
     let k = close_length (name_of w from) in
     let o = open_length w (name_of w from) in
-    let a = mem c.append-open.new.core in
-    let b = mem c.append-escaped.new.self in
-    let x = after w a (open_bytes w (name_of w from)) c.append-open.ensures.memory (omega arith) in
-    let y = after a b s c.append-escaped.ensures.memory (omega arith) in
+    let a = mem c.append_open.new.core in
+    let b = mem c.append_escaped.new.self in
+    let x = after w a (open_bytes w (name_of w from)) c.append_open.ensures.memory (omega arith) in
+    let y = after a b s c.append_escaped.ensures.memory (omega arith) in
     search rules
 
 pub returns : goal.returns
@@ -77,5 +77,5 @@ returns g c =
     let l = text_length w (name_of w from) s in
     let k = close_length (name_of w from) in
     let o = open_length w (name_of w from) in
-    let whole = text_written w (mem c.append-open.new.core) (mem c.append-escaped.new.self) (mem c.append-close.new.core) from s (omega arith) c.append-open.ensures.memory c.append-escaped.ensures.memory c.append-close.ensures.memory in
+    let whole = text_written w (mem c.append_open.new.core) (mem c.append_escaped.new.self) (mem c.append_close.new.core) from s (omega arith) c.append_open.ensures.memory c.append_escaped.ensures.memory c.append_close.ensures.memory in
     record { writes = (omega arith, c.settle.ensures.memory ∙ ap (λ x. settled element_result (worded false x)) whole) }

@@ -4,9 +4,9 @@ use Rattle.engine.specs.Memory.{mem, Safe}
 use Rattle.rows.proofs.Rooting.{open_told, open_ill_formed, open_misnamed}
 use Rattle.rows.proofs.roots.open.Goals as goal
 
-pub returns-in-Ok-check-name : goal.returns-in-Ok-check-name
-returns-in-Ok-check-name c =
+pub returns-in-Ok-check_name : goal.returns-in-Ok-check_name
+returns-in-Ok-check_name c =
     let w = mem c.args.core.now in
     let at : w.place ≡ Idle = search rules in
     let safe : Safe w = search rules in
-    record { does = λ room. open_told c.args.name.now room w (mem c.open-named.new.core) safe at c.in-Ok.ensures.checked c.in-Ok-check-name.ensures.checked c.open-named.result c.open-named.ensures.opens }
+    record { does = λ room. open_told c.args.name.now room w (mem c.open_named.new.core) safe at c.in-Ok.ensures.checked c.in-Ok-check_name.ensures.checked c.open_named.result c.open_named.ensures.opens }

@@ -23,11 +23,11 @@ returns-then-value-eq0 g c =
     let s = c.args.value.now in
     let fine = c.in-Ok.ensures.checked in
     let chosen = g.R.EscapeRule.chooses c.args.rule.now in
-    let v = mem c.write-words.new.core in
-    let r = c.write-words.result in
+    let v = mem c.write_words.new.core in
+    let r = c.write_words.result in
     let none = nil_from_length s c.if-value-eq0.true in
     let quiet : (not (null s) && not c.args.allowed) ≡ false = and_left (not (null s)) (not c.args.allowed) (ap (λ x. not (null x)) none) in
-    record { does = λ room ρ e. content_words (val_text ρ s) room w v safe fine refl c.args.allowed at refl quiet refl refl r (escaped (ρ.chooses text_use) s) (λ rs l ls. refl) (subst (λ x. Writes r x SensitiveText (not (null x) || w.wordy) w v) (escaped_by ρ chosen text_use s e) c.write-words.ensures.writes) }
+    record { does = λ room ρ e. content_words (val_text ρ s) room w v safe fine refl c.args.allowed at refl quiet refl refl r (escaped (ρ.chooses text_use) s) (λ rs l ls. refl) (subst (λ x. Writes r x SensitiveText (not (null x) || w.wordy) w v) (escaped_by ρ chosen text_use s e) c.write_words.ensures.writes) }
 
 pub returns-then-allowed : goal.returns-then-allowed
 returns-then-allowed g c =
@@ -37,7 +37,7 @@ returns-then-allowed g c =
     let s = c.args.value.now in
     let fine = c.in-Ok.ensures.checked in
     let chosen = g.R.EscapeRule.chooses c.args.rule.now in
-    let v = mem c.write-words-then-allowed.new.core in
-    let r = c.write-words-then-allowed.result in
+    let v = mem c.write_words-then-allowed.new.core in
+    let r = c.write_words-then-allowed.result in
     let may : (not (null s) && not c.args.allowed) ≡ false = and_right (not (null s)) (not c.args.allowed) (ap not c.if-allowed.true) in
-    record { does = λ room ρ e. content_words (val_text ρ s) room w v safe fine refl c.args.allowed at refl may refl refl r (escaped (ρ.chooses text_use) s) (λ rs l ls. refl) (subst (λ x. Writes r x SensitiveText (not (null x) || w.wordy) w v) (escaped_by ρ chosen text_use s e) c.write-words-then-allowed.ensures.writes) }
+    record { does = λ room ρ e. content_words (val_text ρ s) room w v safe fine refl c.args.allowed at refl may refl refl r (escaped (ρ.chooses text_use) s) (λ rs l ls. refl) (subst (λ x. Writes r x SensitiveText (not (null x) || w.wordy) w v) (escaped_by ρ chosen text_use s e) c.write_words-then-allowed.ensures.writes) }

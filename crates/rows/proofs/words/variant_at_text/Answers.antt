@@ -15,33 +15,33 @@ use Rattle.rows.proofs.Elemental.{escaped_by}
 use Rattle.rows.proofs.Wording.{content_silent, content_words, text_silent, text_words, simple_silent, simple_words, no_words}
 use Rattle.rows.proofs.words.variant_at_text.Goals as goal
 
-pub returns-then-is-text-name : goal.returns-then-is-text-name
-returns-then-is-text-name g c =
+pub returns-then-is_text_name : goal.returns-then-is_text_name
+returns-then-is_text_name g c =
     let w = mem c.args.core.now in
     let at : w.place ≡ Text = search rules in
     let safe : Safe w = search rules in
     let s = c.args.value.now in
     let fine = c.in-Ok.ensures.checked in
-    let is = sym c.is-text-name.ensures.value ∙ c.if-is-text-name.true in
+    let is = sym c.is_text_name.ensures.value ∙ c.if-is_text_name.true in
     record {
       does = λ room ρ e.
           text_silent (val_variant ρ s) room w (mem c.settle.new.self) safe fine refl at refl
           (λ b. ap (λ t. Some (done SensitiveText (with_text b (cond t [] (escaped (ρ.chooses text_use) s))))) is ∙ ap (λ x. Some (done SensitiveText x)) (no_words b)) c.settle.ensures.memory;
     }
 
-pub returns-else-is-text-name : goal.returns-else-is-text-name
-returns-else-is-text-name g c =
+pub returns-else-is_text_name : goal.returns-else-is_text_name
+returns-else-is_text_name g c =
     let w = mem c.args.core.now in
     let at : w.place ≡ Text = search rules in
     let safe : Safe w = search rules in
     let s = c.args.value.now in
     let fine = c.in-Ok.ensures.checked in
     let chosen = g.R.EscapeRule.chooses c.args.rule.now in
-    let v = mem c.write-words.new.core in
-    let r = c.write-words.result in
-    let is = sym c.is-text-name.ensures.value ∙ c.if-is-text-name.false in
+    let v = mem c.write_words.new.core in
+    let r = c.write_words.result in
+    let is = sym c.is_text_name.ensures.value ∙ c.if-is_text_name.false in
     record {
       does = λ room ρ e.
           text_words (val_variant ρ s) room w v safe fine refl at refl r (escaped (ρ.chooses text_use) s)
-          (λ b. ap (λ t. Some (done SensitiveText (with_text b (cond t [] (escaped (ρ.chooses text_use) s))))) is) (subst (λ x. Writes r x SensitiveText (not (null x) || w.wordy) w v) (escaped_by ρ chosen text_use s e) c.write-words.ensures.writes);
+          (λ b. ap (λ t. Some (done SensitiveText (with_text b (cond t [] (escaped (ρ.chooses text_use) s))))) is) (subst (λ x. Writes r x SensitiveText (not (null x) || w.wordy) w v) (escaped_by ρ chosen text_use s e) c.write_words.ensures.writes);
     }

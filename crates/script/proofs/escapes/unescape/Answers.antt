@@ -18,9 +18,9 @@ pub loop-c-preserved : goal.loop-c-preserved
 loop-c-preserved c =
     let l = c.loop-c in
     let text = c.args.text.now in
-    elim c.match-next-step.branch [
+    elim c.match-next_step.branch [
       | in-Byte+in-ok-push w ↦
-          let longer : vec_items c.match-next-step.bytes ≡ vec_items l.bytes ++ w.in-Byte.byte ∷ [] =
+          let longer : vec_items c.match-next_step.bytes ≡ vec_items l.bytes ++ w.in-Byte.byte ∷ [] =
           ◌∙◌ {c = vec_items l.bytes ++ w.in-Byte.byte ∷ []} (ap vec_items w.bytes-is) w.in-ok-push.ensures.items in
           reached_as
           (reached_byte text l.c-index l.place (vec_items l.bytes) w.in-Byte.byte c.loop-c-test.true w.in-Byte.ensures.value l.invariant)

@@ -14,9 +14,9 @@ returns c =
     let back = c.cut.ensures.back in
     let written = c.in-ok-written.ensures.cases in
     let begins : Begins line word = record {
-      says = sym c.is-blank.ensures.value ∙ c.if-is-blank.false;
+      says = sym c.is_blank.ensures.value ∙ c.if-is_blank.false;
       word = sym c.cut.ensures.front ∙ c.in-Some.ensures.names;
       alone = λ none. sym back ∙ written.1 none;
     } in
     let argument = ap unescaped (ap (λ o. unwrap_or o []) (sym back) ∙ sym written.0) ∙ c.in-ok-argument.ensures.cases in
-    record { cases = said line word bs c.line-of.result (record { begins = begins; argument = argument }) c.line-of.ensures.cases }
+    record { cases = said line word bs c.line_of.result (record { begins = begins; argument = argument }) c.line_of.ensures.cases }

@@ -45,7 +45,7 @@ returns-in-End g c =
 pub returns-in-Abandon : goal.returns-in-Abandon
 returns-in-Abandon g c =
     let w = mem c.args.writer.now.core in
-    let v = mem c.drop-record.new.self.core in
+    let v = mem c.drop_record.new.self.core in
     let held = g.S.Sink.held c.args.sink.now in
     let room = g.S.Sink.room c.args.sink.now in
-    record { serves = λ d is. subst (λ r. Serves d r w v held room held room) (sym c.spent-on-in-Abandon.ensures.answer) (serves_as call_abandon d c.drop-record.result w v held room (subst (λ x. CallIs g.R.EscapeRule.chooses x d) c.in-Abandon.is is) (λ m. refl) (c.drop-record.ensures.does room)) }
+    record { serves = λ d is. subst (λ r. Serves d r w v held room held room) (sym c.spent_on-in-Abandon.ensures.answer) (serves_as call_abandon d c.drop_record.result w v held room (subst (λ x. CallIs g.R.EscapeRule.chooses x d) c.in-Abandon.is is) (λ m. refl) (c.drop_record.ensures.does room)) }

@@ -3,8 +3,8 @@ use Rattle.xml.proofs.Pieces.{sofar_none, sofar_room, sofar_more, sofar_all}
 use Rattle.xml.proofs.Written.{writes}
 use Rattle.xml.proofs.escape.escape_all.Goals as goal
 
-pub escape-byte-end-requires : goal.escape-byte-end-requires
-escape-byte-end-requires g c =
+pub escape_byte-end-requires : goal.escape_byte-end-requires
+escape_byte-end-requires g c =
     let f = piece (g.R.EscapeRule.chooses c.args.rule.now c.args.target) in
     let l = c.loop-byte in
     sofar_room f c.args.out.now c.args.at c.args.value.now c.requires l.byte-index l.end l.out l.invariant c.loop-byte-test.true l.auto.out
@@ -16,7 +16,7 @@ pub loop-byte-preserved : goal.loop-byte-preserved
 loop-byte-preserved g c =
     let f = piece (g.R.EscapeRule.chooses c.args.rule.now c.args.target) in
     let l = c.loop-byte in
-    let step = c.escape-byte-end in
+    let step = c.escape_byte-end in
     sofar_more f c.args.out.now c.args.at c.args.value.now c.requires l.byte-index l.end l.out l.invariant c.loop-byte-test.true step.result step.new.out step.ensures.end step.ensures.bytes
 
 pub returns : goal.returns

@@ -12,7 +12,7 @@ loop-at-preserved c =
     let rest = char_indices_rest c.next.new.self in
     let inv = c.loop-at.invariant in
     let step = c.in-Some.ensures.steps in
-    let more = sym c.is-name-char.ensures ∙ c.if-not-is-name-char.false in (
+    let more = sym c.is_name_char.ensures ∙ c.if-not-is_name_char.false in (
       IsUtf8-past_char bs rest c.in-Some.c inv.0 step.1,
       ap (stray_from (chars rest)) step.2 ∙ stray_later bs rest c.in-Some.c (char_indices_offset c.loop-at.at-iterator) inv.0 step.1 more ∙ inv.1,
       inv.2,
@@ -23,10 +23,10 @@ returns-in-None c =
     let it = c.loop-at.at-iterator in
     c.loop-at.invariant.2 ∙ stray_past (char_indices_rest it) (char_indices_offset it) c.in-None.ensures.steps.0 ∙ c.loop-at.invariant.1
 
-pub returns-then-not-is-name-char : goal.returns-then-not-is-name-char
-returns-then-not-is-name-char c =
+pub returns-then-not-is_name_char : goal.returns-then-not-is_name_char
+returns-then-not-is_name_char c =
     let it = c.loop-at.at-iterator in
     let inv = c.loop-at.invariant in
     let step = c.in-Some.ensures.steps in
-    let stray = sym c.is-name-char.ensures ∙ c.if-not-is-name-char.true in
+    let stray = sym c.is_name_char.ensures ∙ c.if-not-is_name_char.true in
     ap Some step.0 ∙ stray_here (char_indices_rest it) (char_indices_rest c.next.new.self) c.in-Some.c (char_indices_offset it) inv.0 step.1 stray ∙ inv.1

@@ -7,4 +7,4 @@ use Rattle.xml.proofs.text.well_formed.Goals as goal
 pub returns-in-Err : goal.returns-in-Err
 returns-in-Err c =
     let told = c.in-Err.ensures.cases in
-    record { cases = (refl, told.0, subst (LongestWhole c.args.bytes.now) (sym c.valid-up-to.ensures) (longest_whole told.1)) }
+    record { cases = (refl, told.0, subst (LongestWhole c.args.bytes.now) (sym c.valid_up_to.ensures) (longest_whole told.1)) }

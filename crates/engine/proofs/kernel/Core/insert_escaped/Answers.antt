@@ -22,9 +22,9 @@ returns g c =
     let low : t ≤ w.stage.used = omega (arith, tag) in
     let room : w.stage.used + total ≤ length w.stage.all = omega arith in
     let bytes =
-    put_pieces w.stage.all c.shift-self.new.self.at.now c.write-first.new.self.at.now c.escape-at-second.new.bytes.at.now c.write-end.new.self.at.now a b d t w.stage.used (length a + (c.args.len + length d)) c.write-first.result c.escape-at-second.result
-    low room (omega arith) c.shift-self.ensures.bytes c.write-first.ensures.bytes c.write-first.ensures.end c.escape-at-second.ensures.bytes c.escape-at-second.ensures.end c.write-end.ensures.bytes in
-    let end : c.write-end.result ≡ (frame_at w k).tag + length src = omega (arith, tag, size, c.write-first.ensures.end, c.escape-at-second.ensures.end, c.write-end.ensures.end) in
+    put_pieces w.stage.all c.shift-self.new.self.at.now c.write-first.new.self.at.now c.escape_at-second.new.bytes.at.now c.write-end.new.self.at.now a b d t w.stage.used (length a + (c.args.len + length d)) c.write-first.result c.escape_at-second.result
+    low room (omega arith) c.shift-self.ensures.bytes c.write-first.ensures.bytes c.write-first.ensures.end c.escape_at-second.ensures.bytes c.escape_at-second.ensures.end c.write-end.ensures.bytes in
+    let end : c.write-end.result ≡ (frame_at w k).tag + length src = omega (arith, tag, size, c.write-first.ensures.end, c.escape_at-second.ensures.end, c.write-end.ensures.end) in
     record {
       memory = in_tag_is w _ k src c.write-end.new.self.at.now c.shift-self.result c.write-end.result c.lengthen.new.self.at.now refl
           (bytes ∙ ap (λ x. opened w.stage.all x w.stage.used src) tag) (omega (arith, size, c.shift-self.ensures.end)) end c.lengthen.ensures.frames;

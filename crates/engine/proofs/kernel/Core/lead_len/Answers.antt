@@ -4,5 +4,5 @@ use Rattle.engine.proofs.kernel.Core.lead_len.Goals as goal
 
 pub returns-then-indented : goal.returns-then-indented
 returns-then-indented c =
-    let n = length-lead c.args.self.now.indentation c.in-Some.indent c.args.indented c.args.around c.run-len.result c.in-Some.is c.if-indented.true c.run-len.ensures.value in
+    let n = length-lead c.args.self.now.indentation c.in-Some.indent c.args.indented c.args.around c.run_len.result c.in-Some.is c.if-indented.true c.run_len.ensures.value in
     record { value = sym n; small = omega arith }

@@ -6,7 +6,7 @@ use Rattle.script.proofs.words.Word.find.Goals as goal
 
 pub loop-word-preserved : goal.loop-word-preserved
 loop-word-preserved c =
-    below_more _ _ c.loop-word.invariant (λ e. both_ways _ c.if-same-bytes.false (c.same-bytes.ensures.decides.1 (e ∙ sym c.spelling.ensures.value)))
+    below_more _ _ c.loop-word.invariant (λ e. both_ways _ c.if-same_bytes.false (c.same_bytes.ensures.decides.1 (e ∙ sym c.spelling.ensures.value)))
 
 pub returns : goal.returns
 returns c =

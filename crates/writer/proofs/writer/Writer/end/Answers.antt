@@ -6,8 +6,8 @@ use Rattle.places.proofs.Standing.{safe}
 use Rattle.writer.proofs.Lasting.{lasts}
 use Rattle.writer.proofs.writer.Writer.end.Goals as goal
 
-pub end-at-requires : goal.end-at-requires
-end-at-requires c =
+pub end_at-requires : goal.end_at-requires
+end_at-requires c =
     let s = c.args.self.now in
     let z : Sizes (mem s.core) = record { stage = s.stage; names = s.names; frames = s.frames; indent = s.indent } in
     (safe (mem s.core) s.sound z, s.sound)
@@ -16,4 +16,4 @@ pub invariant-of-self : goal.invariant-of-self
 invariant-of-self c =
     let s = c.args.self.now in
     let z : Sizes (mem s.core) = record { stage = s.stage; names = s.names; frames = s.frames; indent = s.indent } in
-    lasts call_end 0 c.end-at.result (mem s.core) (mem c.end-at.new.core) s.sound z (c.end-at.ensures.does 0)
+    lasts call_end 0 c.end_at.result (mem s.core) (mem c.end_at.new.core) s.sound z (c.end_at.ensures.does 0)

@@ -6,8 +6,8 @@ use Rattle.places.proofs.Standing.{safe}
 use Rattle.writer.proofs.Lasting.{lasts}
 use Rattle.writer.proofs.writer.Writer.field.Goals as goal
 
-pub begin-field-requires : goal.begin-field-requires
-begin-field-requires c =
+pub begin_field-requires : goal.begin_field-requires
+begin_field-requires c =
     let s = c.args.self.now in
     let z : Sizes (mem s.core) = record { stage = s.stage; names = s.names; frames = s.frames; indent = s.indent } in
     (safe (mem s.core) s.sound z, s.sound)
@@ -16,4 +16,4 @@ pub invariant-of-self : goal.invariant-of-self
 invariant-of-self c =
     let s = c.args.self.now in
     let z : Sizes (mem s.core) = record { stage = s.stage; names = s.names; frames = s.frames; indent = s.indent } in
-    lasts (call_field c.args.key.now) 0 c.begin-field.result (mem s.core) (mem c.begin-field.new.core) s.sound z (c.begin-field.ensures.does 0)
+    lasts (call_field c.args.key.now) 0 c.begin_field.result (mem s.core) (mem c.begin_field.new.core) s.sound z (c.begin_field.ensures.does 0)

@@ -12,7 +12,7 @@ returns-in-Err g c = record { meant = calls_meant g.R.EscapeRule.chooses g.met.R
 
 pub returns-in-Ok : goal.returns-in-Ok
 returns-in-Ok g c =
-    let last = c.serve-all-held.new in
+    let last = c.serve_all-held.new in
     let stored = last.answers in
     let size : c.in-Ok.answers.len ≡ length stored = search rules in
     let kept = take_at stored (drop (length stored) c.in-Ok.answers.items) c.in-Ok.answers.len (sym size) in
@@ -24,5 +24,5 @@ returns-in-Ok g c =
     let k' = g.S.Sink.room last.sink in
     record {
       meant = calls_meant g.R.EscapeRule.chooses g.met.R.EscapeRule.within g.met.R.EscapeRule.enough c.args.calls.now;
-      replayed = λ cs are. subst (λ z. Replayed cs w v bs k bs' k' (all_answered z)) (sym kept) (replayed cs w v bs k bs' k' (all_answered stored) c.args.self.now.sound (c.serve-all-held.ensures.ran cs are));
+      replayed = λ cs are. subst (λ z. Replayed cs w v bs k bs' k' (all_answered z)) (sym kept) (replayed cs w v bs k bs' k' (all_answered stored) c.args.self.now.sound (c.serve_all-held.ensures.ran cs are));
     }

@@ -7,8 +7,8 @@ use Rattle.writer.proofs.Lasting.{lasts}
 use Rattle.writer.proofs.Meaning.{value_meant}
 use Rattle.writer.proofs.writer.Writer.value.Goals as goal
 
-pub take-value-requires : goal.take-value-requires
-take-value-requires g c =
+pub take_value-requires : goal.take_value-requires
+take_value-requires g c =
     let s = c.args.self.now in
     let z : Sizes (mem s.core) = record { stage = s.stage; names = s.names; frames = s.frames; indent = s.indent } in
     (safe (mem s.core) s.sound z, s.sound)
@@ -18,4 +18,4 @@ invariant-of-self g c =
     let s = c.args.self.now in
     let z : Sizes (mem s.core) = record { stage = s.stage; names = s.names; frames = s.frames; indent = s.indent } in
     let meant = value_meant g.R.EscapeRule.chooses g.met.R.EscapeRule.within g.met.R.EscapeRule.enough c.args.value.now in
-    lasts (call_value meant.0) 0 c.take-value.result (mem s.core) (mem c.take-value.new.core) s.sound z (c.take-value.ensures.does 0 meant.0 meant.1)
+    lasts (call_value meant.0) 0 c.take_value.result (mem s.core) (mem c.take_value.new.core) s.sound z (c.take_value.ensures.does 0 meant.0 meant.1)
