@@ -11,9 +11,9 @@ use Rattle.model.specs.declared.place.Place.TheVariants.{Field, AttributeItem}
 use Rattle.model.specs.Strings.{utf8}
 use Rattle.model.specs.Calls.{Rule, call_value, call_end}
 use Rattle.model.specs.Marks.{flatten}
-use Rattle.model.specs.Model.{Level, Outer, Quote, several, between, quote, place}
+use Rattle.model.specs.Model.{Level, Outer, Quote, several, between, quote}
 use Rattle.model.specs.Step.{still, gap, quoted_item, put_several, requoted_if, with_attribute, attribute}
-use Rattle.model.specs.Layout.{stage, pending, tag_end, record_frame, outer_frames, list_frame, quote_frames}
+use Rattle.model.specs.Layout.{pending, tag_end, record_frame, outer_frames, list_frame, quote_frames}
 use Rattle.model.specs.Grounds.{value_string, is_text, no_item}
 use Rattle.model.specs.Table.{verdict, next, or_stay}
 use Rattle.engine.specs.Memory.{Mem, Safe, in_tag, placed, popped}

@@ -10,9 +10,9 @@ use Rattle.model.specs.declared.place.Place.TheVariants.{Field, Attribute, Attri
 use Rattle.model.specs.Strings.{utf8}
 use Rattle.model.specs.Calls.{Rule, Value, call_value, val_none, val_row}
 use Rattle.model.specs.Marks.{flatten}
-use Rattle.model.specs.Model.{Level, Outer, single, several, between, quote, place}
+use Rattle.model.specs.Model.{Level, Outer, single, several, between, quote}
 use Rattle.model.specs.Step.{closed, put_single, requoted_if, with_attribute, attribute}
-use Rattle.model.specs.Layout.{stage, pending, tag_end, record_frame, outer_frames, list_frame}
+use Rattle.model.specs.Layout.{pending, tag_end, record_frame, outer_frames, list_frame}
 use Rattle.model.specs.Grounds.{value_string, is_text, no_text}
 use Rattle.model.specs.Table.{verdict, or_stay, value_opens}
 use Rattle.engine.specs.Memory.{Mem, Safe, in_tag, pushed}

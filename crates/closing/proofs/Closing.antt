@@ -6,7 +6,7 @@ use Rattle.style.specs.declared.result.WriteResult.TheVariants.{Element as eleme
 use Rattle.style.specs.declared.style.EmptyElementHandling.{EmptyElementHandling}
 use Rattle.model.specs.declared.frame.Frame.{Frame}
 use Rattle.model.specs.Marks.{Mark, tag_byte, text_byte, lead, indent, bytes_of_mark, less_than, flatten, tagged, shut}
-use Rattle.model.specs.Model.{Level, Outer, element, between, inside, complete, start}
+use Rattle.model.specs.Model.{Level, Outer, element, between, inside, start}
 use Rattle.model.specs.Step.{with_body, with_tag, no_kids, end_tag, closed_record, close}
 use Rattle.model.specs.Layout.{stage, below, open_tag, tag_end, record_frame, outer_frames, row_frames}
 use Rattle.model.proofs.Flatten.{flatten-++, flatten_tagged}

@@ -1,5 +1,5 @@
 -- The library's answers on bytes and names are those of the model's tests. Assumes nothing.
-use Rattle.std.proofs.Common.{◌≡◌, ℕ, zero, suc, ◌<◌, ◌≤◌, Bool, true, false, cond, ◌⊎◌, List, [], ◌∷◌, length, take, Some, None, codes, IsUtf8, Decides, Option, sym, refl, ap, ◌∙◌, subst, inl, inr, ⊎_elim, arith}
+use Rattle.std.proofs.Common.{◌≡◌, ℕ, zero, suc, ◌<◌, ◌≤◌, Bool, true, false, List, length, take, Some, None, IsUtf8, Decides, Option, sym, refl, ◌∙◌, subst, ⊎_elim, arith}
 use Rattle.std.specs.Str.{bytes_eq}
 use Rattle.std.proofs.lemmas.Bool.{cases_Bool, cases_eq, cases_lt, cond-true, cond-false, both_ways}
 use Rattle.std.proofs.lemmas.Slice.Eq.{bytes_eq-Decides}
@@ -7,7 +7,7 @@ use Rattle.refusal.specs.declared.Refusal.{Refusal}
 use Rattle.refusal.specs.declared.Refusal.TheVariants.{Order, Bytes as BytesAt, Shape, RunOn, Name as NameAt, Stack, Depth, Stage, Sink, Style}
 use Rattle.refusal.specs.Refusals.{number, offset}
 use Rattle.xml.specs.Text.{LongestWhole}
-use Rattle.xml.specs.Names.{Name, Faults, name_fault}
+use Rattle.xml.specs.Names.{Name, name_fault}
 use Rattle.xml.proofs.Naming.{faults_of}
 use Rattle.model.specs.Strings.{utf8, whole, whole_upto}
 use Rattle.model.proofs.Spelling.{utf8_true, utf8_from}

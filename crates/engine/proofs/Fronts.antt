@@ -1,9 +1,8 @@
 -- The part in use of a slice under each store, and what lies past it. Assumes nothing.
 use Rattle.std.proofs.Common.{◌≡◌, ℕ, ◌+◌, ◌-◌, ◌<◌, ◌≤◌, List, [], ◌∷◌, ◌++◌, length, get_or, take, drop, set, sym, refl, ap, ◌∙◌, arith, rules}
-use Rattle.std.proofs.lemmas.List.{same_lists, places, length-append, length-set, length-take, length-take-le, length_push, take-take, take_at, take_all, drop_at, take_more_set, set_at, get_or_at, get_or-take, drop-set-lt, drop-drop, get_or-set_same, get_or-set_other}
+use Rattle.std.proofs.lemmas.List.{same_lists, places, length-append, length-set, length-take, length-take-le, take-take, take_at, take_all, drop_at, take_more_set, set_at, get_or_at, get_or-take, drop-set-lt, drop-drop, get_or-set_same}
 use Rattle.std.proofs.lemmas.Slice.{between_is}
 use Rattle.std.proofs.lemmas.Bool.{cases_eq}
-use Rattle.memory.specs.Laid.{laid}
 use Rattle.memory.specs.Opened.{opened}
 use Rattle.memory.proofs.Laying.{take-laid, drop-laid, length-laid}
 use Rattle.memory.proofs.Opening.{take-opened, drop-opened, length-opened}

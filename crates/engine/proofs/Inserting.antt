@@ -1,5 +1,5 @@
 -- Bytes put in at the end of an open tag, piece by piece into one gap. Assumes nothing.
-use Rattle.std.proofs.Common.{◌≡◌, ℕ, ◌+◌, ◌≤◌, List, [], ◌∷◌, ◌++◌, length, set, sym, refl, ap, ◌∙◌, arith}
+use Rattle.std.proofs.Common.{◌≡◌, ℕ, ◌+◌, ◌≤◌, List, ◌++◌, length, set, ap, ◌∙◌, arith}
 use Rattle.std.proofs.lemmas.List.{length-append}
 use Rattle.memory.specs.Laid.{laid}
 use Rattle.memory.specs.Opened.{shifted, opened}
@@ -7,7 +7,7 @@ use Rattle.memory.proofs.Laying.{laid-laid, length-laid}
 use Rattle.memory.proofs.Opening.{opened_is, length-shifted}
 use Rattle.model.specs.declared.frame.Frame.{Frame}
 use Rattle.engine.specs.Frames.{longer_tag}
-use Rattle.engine.specs.Memory.{Buf, Mem, frame_at, in_tag}
+use Rattle.engine.specs.Memory.{Mem, frame_at, in_tag}
 
 -- three pieces laid into a gap of their size, one behind the other
 pub put_three : (d a b c : List ℕ) (tag used : ℕ) → tag ≤ used → used + (length a + (length b + length c)) ≤ length d → laid (laid (laid (shifted d tag used (length a + (length b + length c))) tag a) (tag + length a) b) (tag + length a + length b) c ≡ opened d tag used (a ++ (b ++ c))

@@ -1,16 +1,15 @@
 -- Marks behind the children of the innermost record. Assumes nothing.
-use Rattle.std.proofs.Common.{◌≡◌, ℕ, ◌+◌, ◌<◌, ◌≤◌, Bool, List, [], ◌∷◌, ◌++◌, length, Option, sym, refl, ap, ◌∙◌, subst, append_assoc, arith}
-use Rattle.std.proofs.lemmas.List.{length-append}
+use Rattle.std.proofs.Common.{◌≡◌, ℕ, ◌+◌, ◌<◌, ◌≤◌, Bool, List, [], ◌∷◌, ◌++◌, length, Option, sym, refl, ap, ◌∙◌, subst, append_assoc}
 use Rattle.style.specs.declared.indentation.Indentation.{Indentation}
 use Rattle.style.specs.declared.result.WriteResult.{WriteResult}
 use Rattle.model.specs.Marks.{Mark, flatten}
-use Rattle.model.specs.Model.{Body, Level, Row, named_row, content_row, Outer, Spot, element, content, text_spot, simple, words, State, between, inside, stack}
+use Rattle.model.specs.Model.{Body, Level, Row, named_row, content_row, Outer, Spot, element, content, text_spot, simple, words, between, inside, stack}
 use Rattle.model.specs.Step.{with_body, settle}
 use Rattle.model.specs.Layout.{stage, tag_end, spot_frames, spot_names}
 use Rattle.model.proofs.Flatten.{flatten-++}
-use Rattle.engine.specs.Memory.{Buf, Mem, grown, appended, worded, settled, top_frame}
-use Rattle.engine.specs.Lays.{Front, Past, Nested, row_stacks, outer_stacks, Holds, Lays, Beyond}
-use Rattle.engine.proofs.Fronts.{front_as, front_grown, front_length, past_same, past_cut, past_grown}
+use Rattle.engine.specs.Memory.{Mem, grown, appended, worded, settled, top_frame}
+use Rattle.engine.specs.Lays.{Nested, row_stacks, outer_stacks, Holds, Lays, Beyond}
+use Rattle.engine.proofs.Fronts.{front_as, front_grown, past_cut, past_grown}
 use Rattle.engine.proofs.Settling.{lays_settle, settled_frames}
 
 -- a body with marks behind its children, and whether a text's bytes stand last then

@@ -1,8 +1,8 @@
 -- The bytes of a tag's `<` and of the indent before it. Assumes nothing.
-use Rattle.std.proofs.Common.{◌≡◌, ℕ, ◌+◌, ◌*◌, Bool, true, false, List, [], ◌∷◌, ◌++◌, length, replicate, Some, None, codes, Option, sym, refl, ap, ◌∙◌, arith}
+use Rattle.std.proofs.Common.{◌≡◌, ℕ, ◌+◌, ◌*◌, Bool, true, [], ◌∷◌, ◌++◌, length, replicate, Some, Option, ap, ◌∙◌, arith}
 use Rattle.std.proofs.lemmas.List.{length-append, length-replicate}
 use Rattle.style.specs.declared.indentation.Indentation.{Indentation}
-use Rattle.model.specs.Marks.{bytes_of_mark, less_than, lead}
+use Rattle.model.specs.Marks.{bytes_of_mark, less_than}
 
 -- a run of the indent byte between its line feed and the `<`
 pub lead_is : (o : Option Indentation) (i : Indentation) (g : Bool) (d : ℕ) → o ≡ Some i → g ≡ true → bytes_of_mark o (less_than g d) ≡ (10 ∷ []) ++ (replicate (i.size * d) i.byte ++ (60 ∷ []))

@@ -1,16 +1,15 @@
 -- A value is complete: the innermost open thing takes note in its frame, as the model does. Assumes nothing.
-use Rattle.std.proofs.Common.{◌≡◌, ℕ, ◌+◌, ◌-◌, ◌<◌, ◌≤◌, Bool, true, false, not, List, [], ◌∷◌, ◌++◌, length, take, sym, refl, ap, ◌∙◌, subst, append_assoc, arith}
+use Rattle.std.proofs.Common.{◌≡◌, ℕ, ◌-◌, ◌<◌, true, List, [], ◌∷◌, ◌++◌, length, sym, refl, ap, ◌∙◌, subst, append_assoc, arith}
 use Rattle.std.proofs.lemmas.List.{length_push, append-nil}
 use Rattle.style.specs.declared.result.WriteResult.{WriteResult}
-use Rattle.model.specs.declared.place.Place.{Place}
 use Rattle.model.specs.declared.frame.Frame.{Frame}
 use Rattle.model.specs.Model.{Level, Row, named_row, content_row, Outer, Spot, State, inside, place}
 use Rattle.model.specs.Step.{settle}
 use Rattle.model.specs.Layout.{stage, names as names_of, frames as frames_of, records, row_frame, row_frames, record_frame, outer_frames, spot_frames}
 use Rattle.engine.specs.Frames.{no_frame, settled_frame, next_place}
-use Rattle.engine.specs.Memory.{Buf, Mem, top_frame, settled, settled_in}
-use Rattle.engine.specs.Lays.{Front, Past, Begins, Fit, Holds, Lays, Beyond, Wordy}
-use Rattle.engine.proofs.Fronts.{front_length, front_as, front_get, front_set, front_cut, begins_self, past_same, past_cut, past_set}
+use Rattle.engine.specs.Memory.{Mem, top_frame, settled, settled_in}
+use Rattle.engine.specs.Lays.{Front, Past, Begins, Fit, Holds, Lays, Wordy}
+use Rattle.engine.proofs.Fronts.{front_length, front_as, front_get, front_set, front_cut, begins_self, past_set}
 
 pub top_is : (w : Mem) (xs : List Frame) (f : Frame) → Front w.frames (xs ++ (f ∷ [])) → top_frame w ≡ f
 top_is w xs f h = front_get w.frames xs f [] (w.frames.used - 1) no_frame (omega (arith, front_length w.frames (xs ++ (f ∷ [])) h, length_push xs f)) h
@@ -28,7 +27,7 @@ pub record Settles (r : WriteResult) (f : Frame) (xs : List Frame) (ns : List �
   pub frames : Front w.frames (xs ++ (f ∷ []))
   pub noted : xs ++ (settled_frame r f ∷ []) ≡ frames_of w.indentation m
   pub records : w.records ≡ records m
-  pub wordy : wordy m w.wordy
+  pub wordy : Wordy m w.wordy
   pub fit : Fit m
   pub place : next_place f.kind w.wordy f.from ≡ place m
 

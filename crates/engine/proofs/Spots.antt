@@ -1,9 +1,8 @@
 -- From the place of the code to the states of the model that are at it. Assumes nothing.
-use Rattle.std.proofs.Common.{◌≡◌, ℕ, Bool, List, length, sym, refl, ◌∙◌, subst, arith}
-use Rattle.model.specs.declared.place.Place.{Place}
+use Rattle.std.proofs.Common.{◌≡◌, ℕ, Bool, List, length, sym, ◌∙◌, subst, arith}
 use Rattle.model.specs.declared.place.Place.TheVariants.{Idle, Field, Element, Content, Text, Simple, Attribute, TextItem, AttributeItem, Complete}
 use Rattle.model.specs.Marks.{Mark}
-use Rattle.model.specs.Model.{Level, Row, Outer, Spot, element, content, text_spot, simple, words, Quote, single, several, State, idle, between, inside, quote, complete, place}
+use Rattle.model.specs.Model.{Level, Row, Outer, element, content, text_spot, simple, words, single, several, State, idle, between, inside, quote, complete}
 use Rattle.engine.specs.Memory.{Mem}
 use Rattle.engine.specs.Lays.{Lays}
 

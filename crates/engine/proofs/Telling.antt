@@ -1,5 +1,5 @@
 -- The verdict's rows one by one: what a call answers where a row is the first to apply, and where none does. Assumes nothing.
-use Rattle.std.proofs.Common.{◌≡◌, ℕ, ◌+◌, ◌-◌, ◌<◌, ◌≤◌, min, Bool, true, false, not, ◌&&◌, ltb, leb, List, [], ◌∷◌, ◌++◌, length, Some, None, Ok, Err, Option, Result, sym, refl, ap, ◌∙◌, subst, arith}
+use Rattle.std.proofs.Common.{◌≡◌, ℕ, ◌+◌, ◌-◌, ◌<◌, ◌≤◌, min, Bool, true, false, leb, [], ◌∷◌, length, Some, None, Ok, Err, Option, sym, refl, ap, ◌∙◌, subst, arith}
 use Rattle.std.proofs.lemmas.Bool.{lt-ltb, le-ltb, le-leb, lt-leb, and_left, and_right, and_from}
 use Rattle.refusal.specs.declared.Refusal.{Refusal}
 use Rattle.refusal.specs.declared.Refusal.TheVariants.{Order, Bytes as BytesAt, Shape, RunOn, Name as NameAt, Stack, Depth, Stage, Sink}
@@ -8,7 +8,7 @@ use Rattle.model.specs.Calls.{Call}
 use Rattle.model.specs.Model.{State}
 use Rattle.model.specs.Layout.{stage, names, frames}
 use Rattle.model.specs.Grounds.{out_of_order, ill_formed, string_of, misshapen, runs_on, misnamed}
-use Rattle.model.specs.Table.{Setting, Verdict, refuse, accept, verdict, judged, first, when, fault_at, next, name_brought, takes_frame, handed, stack_full, too_deep, stage_full, sink_full}
+use Rattle.model.specs.Table.{Verdict, refuse, accept, verdict, judged, first, when, fault_at, next, name_brought, takes_frame, handed, stack_full, too_deep, stage_full, sink_full}
 use Rattle.engine.specs.Memory.{Mem, Safe}
 use Rattle.engine.specs.Lays.{Front, Holds, Lays, Beyond, setting, Told}
 use Rattle.engine.proofs.Fronts.{front_length}

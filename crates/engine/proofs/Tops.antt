@@ -1,10 +1,10 @@
 -- What the top frame says of the innermost open thing before a value. Assumes nothing.
-use Rattle.std.proofs.Common.{◌≡◌, Bool, List, [], ◌∷◌, ◌++◌, sym, refl, ap, ◌∙◌}
+use Rattle.std.proofs.Common.{◌≡◌, List, [], ◌∷◌, ◌++◌, refl, ap, ◌∙◌}
 use Rattle.model.specs.declared.frame.Frame.{Frame}
-use Rattle.model.specs.Model.{Level, Row, named_row, content_row, Outer, Spot, State, inside, flag}
+use Rattle.model.specs.Model.{Level, Row, named_row, content_row, Outer, Spot, inside, flag}
 use Rattle.model.specs.Layout.{frames, row_frame, row_frames, record_frame, outer_frames, spot_frames}
 use Rattle.engine.specs.Memory.{Mem, top_frame}
-use Rattle.engine.specs.Lays.{Front, Holds}
+use Rattle.engine.specs.Lays.{Holds}
 use Rattle.engine.proofs.Fronts.{front_as}
 use Rattle.engine.proofs.Settling.{top_is, row_on_top}
 

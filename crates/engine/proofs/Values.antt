@@ -6,12 +6,12 @@ use Rattle.style.specs.declared.indentation.Indentation.{Indentation}
 use Rattle.style.specs.declared.result.WriteResult.{WriteResult}
 use Rattle.model.specs.Calls.{Call}
 use Rattle.model.specs.Marks.{Mark, flatten}
-use Rattle.model.specs.Model.{Level, Row, named_row, content_row, Outer, Spot, State, between, inside}
+use Rattle.model.specs.Model.{Level, Row, named_row, content_row, Outer, Spot, between, inside}
 use Rattle.model.specs.Step.{with_body, settle}
 use Rattle.model.specs.Layout.{stage, frames, outer_frames, record_frame, row_frames, spot_frames}
 use Rattle.model.specs.Table.{verdict, next}
 use Rattle.engine.specs.Memory.{Mem, Safe, appended, worded, settled, top_frame}
-use Rattle.engine.specs.Lays.{Front, Holds, Lays, Beyond, setting, Told}
+use Rattle.engine.specs.Lays.{Holds, Lays, Beyond, setting, Told}
 use Rattle.engine.proofs.Fronts.{front_length, past_same, past_cut}
 use Rattle.engine.proofs.Settling.{lays_settle, settled_frames}
 use Rattle.engine.proofs.Kids.{more_kids, stage_kids, lays_value, beyond_value}

@@ -2,7 +2,7 @@
 use Rattle.std.specs.Prelude.{◌≡◌, ℕ, ◌≤◌, Bool, List, [], ◌∷◌, ◌++◌, length, take, drop, Ok, Err, Result}
 use Rattle.refusal.specs.declared.Refusal.{Refusal}
 use Rattle.model.specs.Calls.{Call}
-use Rattle.model.specs.Model.{Level, Row, named_row, content_row, Outer, Spot, Quote, State, idle, between, inside, quote, complete, stack, place}
+use Rattle.model.specs.Model.{Row, named_row, content_row, Outer, State, idle, between, inside, quote, complete, place}
 use Rattle.model.specs.Layout.{stage, names, frames, records, spot_names}
 use Rattle.model.specs.Table.{Setting, Verdict, refuse, accept, verdict}
 use Rattle.engine.specs.Memory.{Buf, Mem}
@@ -56,7 +56,7 @@ pub record Holds (m : State) (w : Mem) : Type 0 where
   pub names : Front w.names (names m)
   pub frames : Front w.frames (frames w.indentation m)
   pub records : w.records ≡ records m
-  pub wordy : wordy m w.wordy
+  pub wordy : Wordy m w.wordy
   pub fit : Fit m
 
 -- and the place is the model's too

@@ -1,5 +1,5 @@
 -- The writer's memory as lists and numbers, and what each small step does to it. Assumes nothing.
-use Rattle.std.specs.Prelude.{ℕ, ◌+◌, ◌-◌, ◌≤◌, Bool, List, [], ◌∷◌, ◌++◌, length, Some, None, Option, slice_index_or, slice_range, slice_set}
+use Rattle.std.specs.Prelude.{ℕ, ◌+◌, ◌-◌, ◌≤◌, Bool, List, length, Some, None, Option, slice_index_or, slice_range, slice_set}
 use Rattle.style.specs.declared.indentation.Indentation.{Indentation}
 use Rattle.style.specs.declared.result.WriteResult.{WriteResult}
 use Rattle.style.specs.declared.style.EmptyElementHandling.{EmptyElementHandling}

@@ -35,12 +35,12 @@ pub fn check_name(name: &[u8]) -> Result<(), Refusal>
 pub fn is_text_name(name: &[u8]) -> bool
     ensures value { result ≡ is_text_name name.now }
 {
-    name == b"$text"
+    name == b"$text".as_slice()
 }
 
 /// Whether this is the key `$value`, which stands for a value among the children.
 pub fn is_value_name(name: &[u8]) -> bool
     ensures value { result ≡ is_value_name name.now }
 {
-    name == b"$value"
+    name == b"$value".as_slice()
 }

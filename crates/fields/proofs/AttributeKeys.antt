@@ -10,7 +10,7 @@ use Rattle.model.specs.Strings.{utf8}
 use Rattle.model.specs.Calls.{call_field}
 use Rattle.model.specs.Marks.{flatten}
 use Rattle.model.specs.Model.{Level, Outer, single, between, quote}
-use Rattle.model.specs.Layout.{stage, pending, tag_end, record_frame, outer_frames}
+use Rattle.model.specs.Layout.{pending, tag_end, record_frame, outer_frames}
 use Rattle.model.specs.Grounds.{behind}
 use Rattle.model.specs.Table.{verdict}
 use Rattle.model.proofs.Spelling.{utf8_true, utf8_from, well_formed_key}

@@ -1,21 +1,18 @@
 -- A row or a list ends: its frame is free again, and the thing around it settles. Assumes nothing.
-use Rattle.std.proofs.Common.{◌≡◌, ℕ, ◌+◌, ◌-◌, ◌<◌, ◌≤◌, Bool, true, false, not, List, [], ◌∷◌, ◌++◌, length, take, Ok, Err, Option, sym, refl, ap, ◌∙◌, subst, append_assoc, arith}
+use Rattle.std.proofs.Common.{◌≡◌, ℕ, ◌-◌, ◌<◌, Bool, false, List, [], ◌∷◌, ◌++◌, length, take, Ok, Err, sym, refl, ap, ◌∙◌, subst, append_assoc, arith}
 use Rattle.std.proofs.lemmas.Str.{IsUtf8-nil}
 use Rattle.std.proofs.lemmas.Bool.{not_from_true}
 use Rattle.std.proofs.lemmas.List.{length-append, length_push, length-take, append-nil, take_at, take-take}
 use Rattle.refusal.specs.declared.Refusal.TheVariants.{Order}
-use Rattle.style.specs.declared.indentation.Indentation.{Indentation}
 use Rattle.style.specs.declared.result.WriteResult.{WriteResult}
 use Rattle.style.specs.declared.result.WriteResult.TheVariants.{Element as element_result, SensitiveText}
 use Rattle.model.specs.declared.place.Place.TheVariants.{Element, Content, TextItem}
-use Rattle.model.specs.declared.frame.Frame.{Frame}
-use Rattle.model.specs.declared.frame.Kind.{Kind}
-use Rattle.model.specs.declared.frame.Kind.TheVariants.{Record as record_kind, Named as named_kind, Content as content_kind, List as list_kind}
-use Rattle.model.specs.Calls.{Call, call_end}
-use Rattle.model.specs.Model.{Level, Row, named_row, content_row, Outer, Spot, element, content, text_spot, simple, words, State, inside}
+use Rattle.model.specs.declared.frame.Kind.TheVariants.{Record as record_kind, Named as named_kind, Content as content_kind}
+use Rattle.model.specs.Calls.{call_end}
+use Rattle.model.specs.Model.{Level, Row, named_row, content_row, Outer, Spot, element, content, text_spot, words, State, inside}
 use Rattle.model.specs.Step.{settle}
-use Rattle.model.specs.Layout.{stage, frames, row_frame, row_frames, record_frame, outer_frames, list_frame, spot_frames, spot_names}
-use Rattle.model.specs.Grounds.{out_of_order, innermost_row, is_named_kind, is_content_kind}
+use Rattle.model.specs.Layout.{frames, row_frame, row_frames, record_frame, outer_frames, list_frame, spot_frames, spot_names}
+use Rattle.model.specs.Grounds.{out_of_order}
 use Rattle.model.specs.Table.{verdict, next}
 use Rattle.model.specs.Strings.{utf8}
 use Rattle.model.proofs.Spelling.{utf8_from}

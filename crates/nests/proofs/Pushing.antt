@@ -1,23 +1,19 @@
 -- A row or a list opens: a frame is taken, and its first item is awaited. Assumes nothing.
-use Rattle.std.proofs.Common.{◌≡◌, ℕ, ◌+◌, ◌-◌, ◌<◌, ◌≤◌, Bool, true, false, cond, not, ◌&&◌, List, [], ◌∷◌, ◌++◌, length, Some, None, Ok, Err, Option, sym, refl, ap, ◌∙◌, subst, append_assoc, arith}
+use Rattle.std.proofs.Common.{◌≡◌, ℕ, ◌+◌, ◌<◌, ◌≤◌, true, false, List, [], ◌∷◌, ◌++◌, length, Ok, Err, sym, refl, ap, ◌∙◌, subst, append_assoc, arith}
 use Rattle.std.proofs.lemmas.List.{append-nil}
 use Rattle.refusal.specs.declared.Refusal.TheVariants.{Depth}
-use Rattle.style.specs.declared.result.WriteResult.TheVariants.{Element as element_result, SensitiveText, SensitiveNothing}
 use Rattle.model.specs.declared.place.Place.{Place}
-use Rattle.model.specs.declared.place.Place.TheVariants.{Element, Content, Text, Simple, TextItem}
 use Rattle.model.specs.declared.frame.Frame.{Frame}
-use Rattle.model.specs.declared.frame.Kind.TheVariants.{Named as named_kind, Content as content_kind}
-use Rattle.model.specs.Calls.{Call, call_value, val_row, val_variant_row}
-use Rattle.model.specs.Model.{Level, Row, named_row, content_row, Outer, Spot, element, content, text_spot, simple, words, State, inside, stack, flag, place}
-use Rattle.model.specs.Layout.{stage, frames as frames_of, row_frame, row_frames, record_frame, outer_frames, list_frame, spot_frames, spot_names}
+use Rattle.model.specs.Calls.{Call}
+use Rattle.model.specs.Model.{Level, Row, named_row, content_row, Outer, Spot, words, State, inside, stack, flag, place}
+use Rattle.model.specs.Layout.{frames as frames_of, row_frame, row_frames, record_frame, outer_frames, list_frame, spot_frames, spot_names}
 use Rattle.model.specs.Table.{verdict, next, name_brought, takes_frame, handed}
 use Rattle.engine.specs.Memory.{Buf, Mem, Safe, pushed, placed, with_names, name_put, top_frame}
-use Rattle.engine.specs.Lays.{Front, Past, Begins, Nested, row_stack, row_stacks, outer_stacks, Holds, Lays, Beyond, setting, Told}
-use Rattle.engine.proofs.Fronts.{front_length, front_as, front_push, front_grown, begins_self, begins_more, past_same, past_grown, past_set}
+use Rattle.engine.specs.Lays.{Front, Begins, Nested, row_stack, row_stacks, outer_stacks, Holds, Lays, Beyond, setting, Told}
+use Rattle.engine.proofs.Fronts.{front_as, front_push, past_same, past_grown, past_set}
 use Rattle.engine.proofs.Settling.{row_on_top}
 use Rattle.engine.proofs.Telling.{Clear, told_ok, told_depth, depth_is_free, sink_unasked}
-use Rattle.engine.proofs.Spots.{on_element, on_content, on_text, on_simple}
-use Rattle.nests.proofs.Leaving.{nested_rest, top_row, top_record}
+use Rattle.nests.proofs.Leaving.{top_row, top_record}
 
 -- the place is set last
 pub lays_placed : (m : State) (p : Place) (w : Mem) → p ≡ place m → Holds m w → Lays m (placed p w)

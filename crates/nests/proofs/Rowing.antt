@@ -1,5 +1,5 @@
 -- Rows at each place that takes one. Assumes nothing.
-use Rattle.std.proofs.Common.{◌≡◌, ℕ, ◌+◌, ◌<◌, ◌≤◌, Bool, true, false, not, List, [], ◌∷◌, ◌++◌, length, Ok, Err, Result, sym, refl, ap, ◌∙◌, subst, arith}
+use Rattle.std.proofs.Common.{◌≡◌, ℕ, ◌<◌, Bool, false, not, [], ◌∷◌, ◌++◌, length, Ok, Err, Result, sym, refl, ap, ◌∙◌, subst}
 use Rattle.std.proofs.lemmas.Str.{IsUtf8-nil}
 use Rattle.std.proofs.lemmas.Bool.{not_from_true}
 use Rattle.refusal.specs.declared.Refusal.{Refusal}
@@ -10,15 +10,13 @@ use Rattle.model.specs.declared.place.Place.TheVariants.{Element, Content, Text,
 use Rattle.model.specs.declared.frame.Frame.{Frame}
 use Rattle.model.specs.Strings.{utf8}
 use Rattle.model.specs.Calls.{Call, call_value, val_row}
-use Rattle.model.specs.Model.{Level, Row, named_row, content_row, Outer, Spot, element, content, text_spot, simple, words, State, inside, stack, flag}
+use Rattle.model.specs.Model.{named_row, content_row, element, content, text_spot, simple, words, State, inside, stack, flag}
 use Rattle.model.specs.Layout.{list_frame, row_frame}
 use Rattle.model.specs.Table.{verdict, next}
-use Rattle.model.specs.Grounds.{out_of_order, misshapen, runs_on, misnamed}
 use Rattle.model.proofs.Spelling.{utf8_from}
 use Rattle.engine.specs.Memory.{Mem, Safe, pushed, placed, top_frame}
 use Rattle.engine.specs.Lays.{Holds, Lays, setting, Told}
 use Rattle.engine.proofs.Fronts.{front_length, begins_self}
-use Rattle.engine.proofs.Telling.{Clear}
 use Rattle.engine.proofs.Spots.{on_element, on_content, on_text, on_simple}
 use Rattle.nests.specs.Frames.{named_frame, content_frame, Pushes}
 use Rattle.nests.proofs.Pushing.{lays_placed, Opens, opens_deep, opens_ok, holds_row, holds_list, top_flag}

@@ -1,5 +1,5 @@
 -- The frames that rows and lists take, and what a step that takes one answers. Assumes nothing.
-use Rattle.std.specs.Prelude.{◌≡◌, ℕ, ◌+◌, ◌<◌, ◌≤◌, Bool, List, length, Ok, Err, Result}
+use Rattle.std.specs.Prelude.{◌≡◌, ℕ, ◌<◌, ◌≤◌, Bool, length, Ok, Err, Result}
 use Rattle.refusal.specs.declared.Refusal.{Refusal}
 use Rattle.refusal.specs.declared.Refusal.TheVariants.{Depth}
 use Rattle.style.specs.declared.result.WriteResult.TheVariants.{Element as element_result, SensitiveNothing}

@@ -1,11 +1,11 @@
 -- What every memory that holds a model gives: the numbers that the steps rely on. Assumes nothing.
-use Rattle.std.proofs.Common.{◌≡◌, ℕ, suc, ◌+◌, ◌-◌, ◌<◌, ◌≤◌, Bool, List, [], ◌∷◌, ◌++◌, length, Option, sym, refl, ap, ◌∙◌, subst, arith}
-use mathlib.Core.Logic.{∥∥₁_elim, ∥∥₁_map}
+use Rattle.std.proofs.Common.{◌≡◌, ℕ, ◌-◌, ◌<◌, ◌≤◌, Bool, List, [], ◌∷◌, ◌++◌, length, Option, arith}
+use mathlib.Core.Logic.{∥∥₁_elim}
 use native.Mathlib.Bridge.{le_prop}
 use Rattle.std.proofs.lemmas.List.{length-append}
 use Rattle.style.specs.declared.indentation.Indentation.{Indentation}
 use Rattle.model.specs.declared.place.Place.TheVariants.{Field, Element, Content, Text, Simple, Attribute, TextItem, AttributeItem}
-use Rattle.model.specs.Model.{Level, Row, Outer, Spot, text_spot, simple, words, Quote, State, idle, between, inside, quote, complete}
+use Rattle.model.specs.Model.{Level, Row, Outer, text_spot, simple, words, State, idle, between, inside, quote, complete}
 use Rattle.model.specs.Layout.{records, frames, outer_frames, record_frame, row_frames, list_frame, spot_frames, quote_frames, pending}
 use Rattle.engine.specs.Memory.{Mem, Safe, top_frame, frame_at}
 use Rattle.engine.specs.Lays.{Lays, Holds}

@@ -1,13 +1,13 @@
 -- Bytes have at most one reading, since the scanner ends with the trees of whatever reading they have.
-use Rattle.std.proofs.Common.{◌≡◌, ℕ, true, false, not, eqb, List, [], ◌∷◌, ◌++◌, codes, sym, refl, ap, ◌∙◌, ⊎_elim, append_assoc}
+use Rattle.std.proofs.Common.{◌≡◌, true, false, not, eqb, List, [], ◌∷◌, ◌++◌, codes, sym, refl, ap, ◌∙◌, ⊎_elim, append_assoc}
 use Rattle.std.proofs.lemmas.Bool.{ne_eqb, not-true, and_left, and_right, and_cases, and_parts, both_ways}
-use Rattle.xml.specs.Reading.{AttValue, begins, lines}
-use Rattle.reader.specs.Trees.{Bytes, Attributes, Nodes, done, text, elem, Tree, tree, ◌▹◌, before}
+use Rattle.xml.specs.Reading.{begins, lines}
+use Rattle.reader.specs.Trees.{Bytes, Attributes, Nodes, done, text, elem, Tree, tree, ◌▹◌}
 use Rattle.reader.specs.Reader.{Element, empty_tag, spaced_empty_tag, tags, Content, content_end, content_raw, content_reference, content_element, Row, row_end, row_more, Reads}
 use Rattle.reader.specs.Laws.{OneReading}
 use Rattle.reader.proofs.Tidy.{◌⊕◌, ⊕_assoc, alone}
 use Rattle.reader.proofs.Bytewise.{each}
-use Rattle.reader.proofs.Scanner.{Around, outermost, inside, adds, children, value, Scan, saying, opened, naming, spaced, slashed, leaving, scan, then, scan_tag, scan_end, scan_reference, scan_value, exactly_self, named_is}
+use Rattle.reader.proofs.Scanner.{Around, outermost, inside, adds, children, Scan, saying, opened, naming, spaced, slashed, leaving, scan, then, scan_tag, scan_end, scan_reference, exactly_self, named_is}
 
 -- a content is followed by <, so that ]]> does not begin in it and end behind it
 before_tag : (xs c rest : Bytes) → each (λ x. not (eqb x 60)) xs ≡ true → begins xs c ≡ false → begins xs (c ++ (60 ∷ rest)) ≡ false

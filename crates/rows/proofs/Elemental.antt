@@ -1,5 +1,5 @@
 -- Values at the element place: an empty element, or a text between tags. Assumes nothing.
-use Rattle.std.proofs.Common.{◌≡◌, ℕ, suc, ◌+◌, ◌<◌, Bool, true, false, cond, List, [], ◌∷◌, ◌++◌, length, Some, None, Ok, Err, Option, Result, sym, refl, ap, ◌∙◌, subst, arith}
+use Rattle.std.proofs.Common.{◌≡◌, ℕ, suc, Bool, true, false, cond, List, [], ◌∷◌, length, Some, Err, Result, sym, refl, ap, ◌∙◌, arith}
 use Rattle.refusal.specs.declared.Refusal.{Refusal}
 use Rattle.refusal.specs.declared.Refusal.TheVariants.{Bytes as BytesAt}
 use Rattle.style.specs.declared.result.WriteResult.TheVariants.{Element as element_result}
@@ -8,15 +8,15 @@ use Rattle.xml.specs.declared.escape.Use.{Use}
 use Rattle.xml.specs.declared.escape.Use.TheVariants.{Text as text_use}
 use Rattle.xml.specs.Escaping.{escaped}
 use Rattle.model.specs.declared.place.Place.TheVariants.{Element}
-use Rattle.model.specs.Strings.{null, utf8, whole}
-use Rattle.model.specs.Calls.{Rule, Value, val_text, val_none, val_variant, call_value, is_text_name}
+use Rattle.model.specs.Strings.{utf8, whole}
+use Rattle.model.specs.Calls.{Rule, Value, val_text, val_variant, call_value, is_text_name}
 use Rattle.model.specs.Marks.{empty_element, text_element}
-use Rattle.model.specs.Model.{Body, Level, Row, Outer, element, State, inside, child_start}
-use Rattle.model.specs.Step.{Move, put_element, empty_child, text_child}
+use Rattle.model.specs.Model.{Body, Row, element, inside, child_start}
+use Rattle.model.specs.Step.{put_element, empty_child, text_child}
 use Rattle.model.specs.Grounds.{no_element, value_string}
 use Rattle.model.specs.Table.{verdict, value_opens}
 use Rattle.engine.specs.Memory.{Mem, Safe}
-use Rattle.engine.specs.Lays.{Lays, setting, Told, Does}
+use Rattle.engine.specs.Lays.{setting, Told, Does}
 use Rattle.engine.proofs.Spots.{on_element}
 use Rattle.rows.specs.Pieces.{Writes, name_of, empty_bytes, text_bytes}
 use Rattle.rows.proofs.Tagging.{name_is, empty_is, text_is}

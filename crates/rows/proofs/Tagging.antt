@@ -1,14 +1,14 @@
 -- The bytes that the code writes for an element are those of the model's marks. Assumes nothing.
-use Rattle.std.proofs.Common.{◌≡◌, ℕ, suc, ◌+◌, Bool, not, ◌&&◌, List, [], ◌∷◌, ◌++◌, length, codes, sym, refl, ap, ◌∙◌, append_assoc, arith}
-use Rattle.model.specs.Marks.{Mark, flatten, bytes_of_mark, less_than, shut, tagged, texted, empty_element, text_element}
-use Rattle.model.specs.Model.{Level, Row, Outer, Spot, element, State, inside, flag, child_start}
+use Rattle.std.proofs.Common.{◌≡◌, ℕ, suc, not, ◌&&◌, List, [], ◌∷◌, ◌++◌, length, codes, sym, ap, ◌∙◌, append_assoc, arith}
+use Rattle.model.specs.Marks.{flatten, bytes_of_mark, less_than, shut, tagged, texted, empty_element, text_element}
+use Rattle.model.specs.Model.{Level, Row, Outer, Spot, element, inside, flag, child_start}
 use Rattle.model.specs.Layout.{spot_frames}
 use Rattle.model.proofs.Flatten.{flatten-++, flatten_tagged, flatten_texted}
-use Rattle.engine.specs.Memory.{Mem, top_frame}
+use Rattle.engine.specs.Memory.{Mem}
 use Rattle.engine.specs.Lays.{Holds}
 use Rattle.engine.proofs.Fronts.{front_second}
 use Rattle.engine.proofs.Tops.{top_flag}
-use Rattle.rows.specs.Pieces.{lead_of, name_of, empty_bytes, open_bytes, close_bytes, text_bytes}
+use Rattle.rows.specs.Pieces.{lead_of, name_of, empty_bytes, close_bytes, text_bytes}
 
 pub lead_is_start : (s : Spot) (rs : List Row) (l : Level) (ls : List Outer) (w : Mem) → spot_frames s ≡ [] → Holds (inside s rs l ls) w → lead_of w ≡ bytes_of_mark w.indentation (child_start rs l.body (suc (length ls)))
 lead_is_start s rs l ls w e h =

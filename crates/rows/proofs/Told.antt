@@ -1,5 +1,5 @@
 -- A value's answer from what the code's step says it wrote. Assumes nothing.
-use Rattle.std.proofs.Common.{◌≡◌, ℕ, suc, ◌+◌, ◌<◌, ◌≤◌, Bool, true, false, not, ◌&&◌, List, [], ◌∷◌, ◌++◌, length, Some, None, Ok, Err, Result, sym, refl, ap, ◌∙◌, subst, arith}
+use Rattle.std.proofs.Common.{◌≡◌, ℕ, suc, Bool, true, false, List, [], length, Some, Ok, Err, Result, sym, refl, ap, ◌∙◌, subst, arith}
 use Rattle.std.proofs.lemmas.Bool.{not_from_true, not_from_false, and_right}
 use Rattle.std.proofs.lemmas.Str.{IsUtf8-nil}
 use Rattle.refusal.specs.declared.Refusal.{Refusal}
@@ -12,7 +12,7 @@ use Rattle.model.specs.Marks.{Mark, flatten}
 use Rattle.model.specs.Model.{Level, Row, Outer, Spot, element, State, inside, stack}
 use Rattle.model.specs.Step.{done, put, put_element, moved_if, settle, with_body, with_tag}
 use Rattle.model.specs.Layout.{spot_frames}
-use Rattle.model.specs.Grounds.{out_of_order, ill_formed, string_of, misshapen, runs_on, misnamed, no_element, is_text, value_string}
+use Rattle.model.specs.Grounds.{out_of_order, string_of, no_element, is_text, value_string}
 use Rattle.model.specs.Table.{verdict, next, or_stay, value_opens}
 use Rattle.model.proofs.Spelling.{utf8_from}
 use Rattle.engine.specs.Memory.{Mem, Safe, settled, worded, appended}

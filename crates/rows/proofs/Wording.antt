@@ -1,22 +1,20 @@
 -- Values at the content, text and simple places that write a text or nothing. Assumes nothing.
-use Rattle.std.proofs.Common.{◌≡◌, ℕ, suc, ◌+◌, ◌<◌, Bool, true, false, cond, not, ◌&&◌, ◌||◌, eqb, List, [], ◌∷◌, ◌++◌, length, Some, None, Ok, Err, Option, Result, sym, refl, ap, ◌∙◌, subst, arith}
-use Rattle.std.proofs.lemmas.Bool.{not_from_true, and_left, and_right, ne_eqb}
+use Rattle.std.proofs.Common.{◌≡◌, ℕ, suc, Bool, true, false, not, ◌&&◌, ◌||◌, eqb, List, [], ◌∷◌, length, Some, None, Ok, Err, Result, sym, refl, ap, subst, arith}
+use Rattle.std.proofs.lemmas.Bool.{not_from_true, and_right, ne_eqb}
 use Rattle.std.proofs.lemmas.List.{append-nil}
 use Rattle.refusal.specs.declared.Refusal.{Refusal}
 use Rattle.refusal.specs.declared.Refusal.TheVariants.{Bytes as BytesAt, RunOn}
 use Rattle.style.specs.declared.result.WriteResult.{WriteResult}
-use Rattle.style.specs.declared.result.WriteResult.TheVariants.{SensitiveText, SensitiveNothing}
-use Rattle.xml.specs.declared.escape.Use.TheVariants.{Text as text_use}
-use Rattle.xml.specs.Escaping.{escaped}
+use Rattle.style.specs.declared.result.WriteResult.TheVariants.{SensitiveText}
 use Rattle.model.specs.declared.place.Place.TheVariants.{Content, Text, Simple}
 use Rattle.model.specs.Strings.{null, utf8, whole}
-use Rattle.model.specs.Calls.{Rule, Value, val_text, val_none, val_variant, call_value, is_text_name}
-use Rattle.model.specs.Marks.{flatten, texted}
-use Rattle.model.specs.Model.{Body, Level, Row, Outer, Spot, content, text_spot, simple, State, inside, stack}
-use Rattle.model.specs.Step.{done, put, put_content, put_text, put_simple, moved_if, settle, with_text}
+use Rattle.model.specs.Calls.{Value, call_value}
+use Rattle.model.specs.Marks.{texted}
+use Rattle.model.specs.Model.{Body, Level, Row, Outer, Spot, content, text_spot, simple, inside, stack}
+use Rattle.model.specs.Step.{done, put, put_content, put_text, put_simple, moved_if, with_text}
 use Rattle.model.specs.Layout.{spot_frames}
 use Rattle.model.specs.Grounds.{no_content, no_text, is_text, value_string, content_fault}
-use Rattle.model.specs.Table.{verdict, next, or_stay, value_opens, content_name}
+use Rattle.model.specs.Table.{verdict, or_stay, value_opens, content_name}
 use Rattle.model.proofs.Flatten.{flatten_texted}
 use Rattle.engine.specs.Memory.{Mem, Safe, settled}
 use Rattle.engine.specs.Lays.{Lays, setting, Told, Does}
@@ -59,49 +57,49 @@ module _ (c : Value) (room : ℕ) (w v : Mem) (safe : Safe w) (fine : utf8 (valu
   module _ (p : Bool) (at : w.place ≡ Content p) (shape : no_content c ≡ false) (may : (is_text c && not p) ≡ false) (named : content_fault c ≡ None) (none : content_name c ≡ []) where
     pub content_silent : (r : WriteResult) → ((rs : List Row) (l : Level) (ls : List Outer) → put_content w.form (suc (length ls)) rs l.body (stack rs l) c ≡ Some (done r l.body)) → v ≡ settled r w → Does (call_value c) room (Ok tt) w v
     content_silent r q is m lay =
-        spots.on-content (λ x. Told (verdict (setting w) room (call_value c) x) (Ok tt) w v) w p m lay at
+        spots.on_content (λ x. Told (verdict (setting w) room (call_value c) x) (Ok tt) w v) w p m lay at
         (λ rs l ls y. spot_silent c room (content p) rs l ls w v r refl (clear_content c p rs l ls fine shape may named) (record { brought = none; takes = small; handed = refl }) (q rs l ls) safe y is)
 
     pub content_words : (res : Result (Unit {0}) Refusal) (bs : List ℕ) → ((rs : List Row) (l : Level) (ls : List Outer) → put_content w.form (suc (length ls)) rs l.body (stack rs l) c ≡ Some (done SensitiveText (with_text l.body bs))) → Writes res bs SensitiveText (not (null bs) || w.wordy) w v → Does (call_value c) room res w v
     content_words res bs q h m lay =
-        spots.on-content (λ x. Told (verdict (setting w) room (call_value c) x) res w v) w p m lay at
+        spots.on_content (λ x. Told (verdict (setting w) room (call_value c) x) res w v) w p m lay at
         (λ rs l ls y. spot_words c room (content p) rs l ls w v res bs refl (clear_content c p rs l ls fine shape may named) (record { brought = none; takes = small; handed = refl }) (q rs l ls) safe y h)
 
   module _ (at : w.place ≡ Text) (shape : no_text c ≡ false) where
     pub text_silent : ((b : Body) → put_text b c ≡ Some (done SensitiveText b)) → v ≡ settled SensitiveText w → Does (call_value c) room (Ok tt) w v
     text_silent q is m lay =
-        spots.on-text (λ x. Told (verdict (setting w) room (call_value c) x) (Ok tt) w v) w m lay at
+        spots.on_text (λ x. Told (verdict (setting w) room (call_value c) x) (Ok tt) w v) w m lay at
         (λ rs l ls y. spot_silent c room text_spot rs l ls w v SensitiveText refl (clear_text c rs l ls fine shape) (record { brought = refl; takes = small; handed = refl }) (q l.body) safe y is)
 
     pub text_words : (res : Result (Unit {0}) Refusal) (bs : List ℕ) → ((b : Body) → put_text b c ≡ Some (done SensitiveText (with_text b bs))) → Writes res bs SensitiveText (not (null bs) || w.wordy) w v → Does (call_value c) room res w v
     text_words res bs q h m lay =
-        spots.on-text (λ x. Told (verdict (setting w) room (call_value c) x) res w v) w m lay at
+        spots.on_text (λ x. Told (verdict (setting w) room (call_value c) x) res w v) w m lay at
         (λ rs l ls y. spot_words c room text_spot rs l ls w v res bs refl (clear_text c rs l ls fine shape) (record { brought = refl; takes = small; handed = refl }) (q l.body) safe y h)
 
   module _ (at : w.place ≡ Simple) (shape : no_text c ≡ false) where
     pub simple_silent : ((b : Body) → put_simple b c ≡ Some (done SensitiveText b)) → v ≡ settled SensitiveText w → Does (call_value c) room (Ok tt) w v
     simple_silent q is m lay =
-        spots.on-simple (λ x. Told (verdict (setting w) room (call_value c) x) (Ok tt) w v) w m lay at
+        spots.on_simple (λ x. Told (verdict (setting w) room (call_value c) x) (Ok tt) w v) w m lay at
         (λ rs l ls y. spot_silent c room simple rs l ls w v SensitiveText refl (clear_simple c rs l ls fine shape) (record { brought = refl; takes = small; handed = refl }) (q l.body) safe y is)
 
     pub simple_words : (res : Result (Unit {0}) Refusal) (bs : List ℕ) → ((b : Body) → put_simple b c ≡ Some (done SensitiveText (with_text b bs))) → Writes res bs SensitiveText (not (null bs) || w.wordy) w v → Does (call_value c) room res w v
     simple_words res bs q h m lay =
-        spots.on-simple (λ x. Told (verdict (setting w) room (call_value c) x) res w v) w m lay at
+        spots.on_simple (λ x. Told (verdict (setting w) room (call_value c) x) res w v) w m lay at
         (λ rs l ls y. spot_words c room simple rs l ls w v res bs refl (clear_simple c rs l ls fine shape) (record { brought = refl; takes = small; handed = refl }) (q l.body) safe y h)
 
 -- bytes that are not well-formed, at each of the three
 module _ (c : Value) (room : ℕ) (w : Mem) (e : Refusal) (bad : utf8 (value_string c) ≡ false) (is : e ≡ BytesAt (whole (value_string c))) where
   pub content_ill_formed : (p : Bool) → w.place ≡ Content p → Does (call_value c) room (Err e) w w
-  content_ill_formed p at m lay = spots.on-content (λ x. Told (verdict (setting w) room (call_value c) x) (Err e) w w) w p m lay at (λ rs l ls y. told_ill_formed w room (call_value c) (inside (content p) rs l ls) e refl bad is)
+  content_ill_formed p at m lay = spots.on_content (λ x. Told (verdict (setting w) room (call_value c) x) (Err e) w w) w p m lay at (λ rs l ls y. told_ill_formed w room (call_value c) (inside (content p) rs l ls) e refl bad is)
 
   pub text_ill_formed : w.place ≡ Text → Does (call_value c) room (Err e) w w
-  text_ill_formed at m lay = spots.on-text (λ x. Told (verdict (setting w) room (call_value c) x) (Err e) w w) w m lay at (λ rs l ls y. told_ill_formed w room (call_value c) (inside text_spot rs l ls) e refl bad is)
+  text_ill_formed at m lay = spots.on_text (λ x. Told (verdict (setting w) room (call_value c) x) (Err e) w w) w m lay at (λ rs l ls y. told_ill_formed w room (call_value c) (inside text_spot rs l ls) e refl bad is)
 
   pub simple_ill_formed : w.place ≡ Simple → Does (call_value c) room (Err e) w w
-  simple_ill_formed at m lay = spots.on-simple (λ x. Told (verdict (setting w) room (call_value c) x) (Err e) w w) w m lay at (λ rs l ls y. told_ill_formed w room (call_value c) (inside simple rs l ls) e refl bad is)
+  simple_ill_formed at m lay = spots.on_simple (λ x. Told (verdict (setting w) room (call_value c) x) (Err e) w w) w m lay at (λ rs l ls y. told_ill_formed w room (call_value c) (inside simple rs l ls) e refl bad is)
 
 -- text where the content place allows none
 pub content_run_on : (c : Value) (room : ℕ) (w : Mem) (p : Bool) → utf8 (value_string c) ≡ true → no_content c ≡ false → (is_text c && not p) ≡ true → w.place ≡ Content p → Does (call_value c) room (Err RunOn) w w
 content_run_on c room w p fine shape t at m lay =
-    spots.on-content (λ x. Told (verdict (setting w) room (call_value c) x) (Err RunOn) w w) w p m lay at
+    spots.on_content (λ x. Told (verdict (setting w) room (call_value c) x) (Err RunOn) w w) w p m lay at
     (λ rs l ls y. told_run_on w room (call_value c) (inside (content p) rs l ls) refl (not_from_true (utf8 (value_string c)) fine) shape t)

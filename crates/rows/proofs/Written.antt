@@ -1,10 +1,10 @@
 -- Elements written piece by piece, and how long they are. Assumes nothing.
-use Rattle.std.proofs.Common.{◌≡◌, ℕ, ◌+◌, ◌-◌, ◌≤◌, List, [], ◌∷◌, ◌++◌, length, take, drop, codes, sym, refl, ap, ◌∙◌, arith, rules}
+use Rattle.std.proofs.Common.{◌≡◌, ℕ, ◌+◌, ◌-◌, ◌≤◌, List, ◌++◌, length, drop, codes, ap, ◌∙◌, arith}
 use Rattle.std.proofs.lemmas.List.{length-append, length-take, length-drop}
 use Rattle.model.specs.Marks.{shut}
 use Rattle.memory.proofs.Laying.{length-laid}
-use Rattle.engine.specs.Memory.{Mem, Safe, appended, name_at}
-use Rattle.engine.proofs.Appending.{appended-++, appended_three}
+use Rattle.engine.specs.Memory.{Mem, appended, name_at}
+use Rattle.engine.proofs.Appending.{appended_three}
 use Rattle.rows.specs.Pieces.{lead_of, name_of, empty_bytes, open_bytes, close_bytes, text_bytes}
 
 pub name_length : (w : Mem) (from end : ℕ) → from ≤ end → end ≤ length w.names.all → length (name_at w from end) ≡ end - from

@@ -1,10 +1,9 @@
 -- Reading byte by byte and falling into pieces are the same: each way by induction.
-use Rattle.std.proofs.Common.{◌≡◌, ℕ, ◌+◌, ◌*◌, Bool, true, false, cond, eqb, List, [], ◌∷◌, ◌++◌, Some, None, Option, sym, refl, ap, ◌∙◌, subst, ⊎_elim, arith, eq-eqb, ne_eqb, eqb-true}
+use Rattle.std.proofs.Common.{◌≡◌, ℕ, ◌+◌, ◌*◌, Bool, true, false, cond, eqb, List, [], ◌∷◌, ◌++◌, Some, None, Option, sym, refl, ap, ◌∙◌, subst, ⊎_elim, arith, ne_eqb, eqb-true}
 use Rattle.std.specs.List.{flat_map}
 use Rattle.std.proofs.lemmas.Bool.{cases_eq, cond-false}
 use Rattle.script.specs.declared.escapes.Place.{Place}
 use Rattle.script.specs.declared.escapes.Place.TheVariants.{Outside, Slash, Digits, Digit}
-use Rattle.script.specs.declared.escapes.Step.{Step}
 use Rattle.script.specs.declared.escapes.Step.TheVariants.{Byte, On, Stray}
 use Rattle.script.specs.Cuts.{behind}
 use Rattle.script.specs.Escapes.{hex_digit, escape_letter, first_digit, second_digit, led, onward, unescaped_from, unescaped}

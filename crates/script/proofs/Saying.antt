@@ -1,5 +1,5 @@
 -- A word that was found and its argument make what a line says, or what is wrong with it.
-use Rattle.std.proofs.Common.{◌≡◌, ℕ, Bool, true, false, cond, leb, List, Some, None, Ok, Err, codes, Option, Result, sym, refl, ap, ◌∙◌, subst, inl, inr, MatchResult}
+use Rattle.std.proofs.Common.{ℕ, Bool, true, false, cond, leb, List, Some, None, Ok, Err, codes, Option, Result, subst, inr, MatchResult}
 use Rattle.std.specs.Str.{bytes_eq}
 use Rattle.style.specs.declared.style.EmptyElementHandling.{EmptyElementHandling}
 use Rattle.style.specs.declared.style.EmptyElementHandling.TheVariants.{SelfClosed, SelfClosedWithSpace, Expanded}

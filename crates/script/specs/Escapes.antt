@@ -1,5 +1,5 @@
 -- What the bytes of an argument stand for: itself each, but for the escapes, which begin with a backslash. Assumes nothing.
-use Rattle.std.specs.Prelude.{◌≡◌, ℕ, ◌+◌, ◌-◌, ◌*◌, ◌<◌, Bool, true, false, cond, ◌&&◌, List, [], ◌∷◌, ◌++◌, Some, None, Option, ◌==◌, nat_le}
+use Rattle.std.specs.Prelude.{ℕ, ◌+◌, ◌-◌, ◌*◌, ◌<◌, cond, ◌&&◌, List, [], ◌∷◌, ◌++◌, Some, None, Option, ◌==◌, nat_le}
 use Rattle.script.specs.declared.escapes.Place.{Place}
 use Rattle.script.specs.declared.escapes.Place.TheVariants.{Outside, Slash, Digits, Digit}
 use Rattle.script.specs.declared.escapes.Step.{Step}

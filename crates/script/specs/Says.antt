@@ -1,5 +1,5 @@
 -- What a line says: nothing, or one word with its argument; and what is wrong with a line that says neither. Assumes nothing.
-use Rattle.std.specs.Prelude.{◌≡◌, ℕ, true, false, ◌⊎◌, List, [], is_some, Some, None, Ok, Err, vec_items}
+use Rattle.std.specs.Prelude.{◌≡◌, ℕ, true, false, ◌⊎◌, List, [], is_some, Some, None, Ok, vec_items}
 use Rattle.std.specs.Option.{unwrap_or}
 use Rattle.script.specs.declared.fault.Fault.{Fault}
 use Rattle.script.specs.declared.fault.Fault.TheVariants as fault

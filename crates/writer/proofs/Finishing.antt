@@ -1,5 +1,5 @@
 -- A complete record goes to the sink. Assumes nothing.
-use Rattle.std.proofs.Common.{◌≡◌, ℕ, ◌+◌, ◌-◌, ◌<◌, ◌≤◌, min, Bool, true, false, not, ltb, List, [], ◌∷◌, ◌++◌, length, take, drop, Ok, Err, Result, sym, refl, ap, ◌∙◌, subst, arith}
+use Rattle.std.proofs.Common.{◌≡◌, ℕ, ◌+◌, ◌-◌, ◌<◌, min, false, List, [], ◌++◌, length, take, drop, Ok, Err, sym, refl, ap, ◌∙◌, subst, arith}
 use Rattle.std.proofs.lemmas.Bool.{le-ltb, not_from_true}
 use Rattle.refusal.specs.declared.Refusal.{Refusal}
 use Rattle.refusal.specs.declared.Refusal.TheVariants.{Order, Bytes, Shape, RunOn, Name, Stack, Depth, Stage, Sink, Style}
@@ -9,9 +9,8 @@ use Rattle.reader.specs.Trees.{Bytes as ByteList}
 use Rattle.model.specs.declared.place.Place.TheVariants.{Complete}
 use Rattle.model.specs.Marks.{Mark, flatten}
 use Rattle.model.specs.Strings.{utf8}
-use Rattle.model.specs.Calls.{Call, call_finish}
-use Rattle.model.specs.Model.{State, idle, complete}
-use Rattle.model.specs.Layout.{stage}
+use Rattle.model.specs.Calls.{call_finish}
+use Rattle.model.specs.Model.{complete}
 use Rattle.model.specs.Table.{verdict, stage_full}
 use Rattle.engine.specs.Memory.{Buf, Mem, Safe}
 use Rattle.engine.specs.Lays.{Lays, Beyond, setting, Told}

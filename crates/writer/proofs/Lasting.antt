@@ -1,12 +1,12 @@
 -- A call keeps what is always true of a writer. Assumes nothing.
-use Rattle.std.proofs.Common.{◌≡◌, ℕ, ◌+◌, ◌-◌, ◌<◌, ◌≤◌, List, [], ◌∷◌, ◌++◌, length, Ok, Err, Result, sym, refl, ap, ◌∙◌, subst, arith}
+use Rattle.std.proofs.Common.{◌≡◌, ℕ, ◌≤◌, length, Result, sym, ap, subst, arith}
 use mathlib.Core.Logic.{∥∥₁_map}
 use Rattle.refusal.specs.declared.Refusal.{Refusal}
 use Rattle.model.specs.Calls.{Call}
 use Rattle.model.specs.Model.{State}
 use Rattle.model.specs.Table.{Setting, Verdict, refuse, accept, verdict}
 use Rattle.engine.specs.Memory.{Mem, indent_size}
-use Rattle.engine.specs.Lays.{Lays, Beyond, setting, Told, Does}
+use Rattle.engine.specs.Lays.{Lays, setting, Told, Does}
 use Rattle.places.specs.Sound.{Sound, Sizes}
 use Rattle.places.proofs.Standing.{always}
 
@@ -41,7 +41,5 @@ sizes_after c room r w v s d z =
     }
 
 -- all of it, as a writer has it
-pub lasts : (c : Call) (room : ℕ) (r : Result (Unit {0}) Refusal) (w v : Mem) → Sound w → Sizes w → Does c room r w v → Sound v × ((length v.stage.all ≤ 65536) × ((length v.names.all ≤ 4096) × ((length v.frames.all ≤ 64) × ((indent_size v.indentation ≤ 16) × Unit {0}))))
-lasts c room r w v s z d =
-    let y = sizes_after c room r w v s d z in
-    (sound_after c room r w v s d, (y.stage, (y.names, (y.frames, (y.indent, tt)))))
+pub lasts : (c : Call) (room : ℕ) (r : Result (Unit {0}) Refusal) (w v : Mem) → Sound w → Sizes w → Does c room r w v → Sound v × Sizes v
+lasts c room r w v s z d = (sound_after c room r w v s d, sizes_after c room r w v s d z)

@@ -1,5 +1,5 @@
 -- Every call in code is some call of the model: its rule value means a rule, since it keeps the laws. Assumes nothing.
-use Rattle.std.proofs.Common.{◌≡◌, ℕ, Bool, true, List, [], ◌∷◌, refl}
+use Rattle.std.proofs.Common.{◌≡◌, ℕ, true, List, [], ◌∷◌, refl}
 use Rattle.xml.specs.declared.escape.Use.{Use}
 use Rattle.xml.specs.Escaping.{nine, asked}
 use Rattle.model.specs.Calls as model

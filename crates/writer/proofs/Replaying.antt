@@ -1,12 +1,12 @@
 -- The laws of runs, said of what the real sink holds. Assumes nothing.
-use Rattle.std.proofs.Common.{◌≡◌, ℕ, ◌+◌, ◌<◌, ◌≤◌, true, false, List, [], ◌∷◌, ◌++◌, length, take, None, Option, sym, refl, ap, ◌∙◌, subst, arith}
+use Rattle.std.proofs.Common.{◌≡◌, ℕ, ◌≤◌, true, false, List, [], ◌++◌, length, take, None, Option, sym, refl, ap, ◌∙◌, subst, arith}
 use Rattle.style.specs.declared.indentation.Indentation.{Indentation}
 use Rattle.reader.specs.Trees.{Bytes}
 use Rattle.model.specs.declared.place.Place.TheVariants.{Idle}
 use Rattle.model.specs.Calls.{Call, Answer}
 use Rattle.model.specs.Model.{State, idle}
-use Rattle.model.specs.Table.{Memory, Setting}
-use Rattle.model.specs.Run.{run, answers, new, writer}
+use Rattle.model.specs.Table.{Memory}
+use Rattle.model.specs.Run.{run, answers, writer}
 use Rattle.model.specs.Fields.{Field, calls, names_attribute}
 use Rattle.model.specs.Documents.{accepted_calls, documents, layouts}
 use Rattle.model.specs.Says.{trees}

@@ -1,5 +1,5 @@
 -- A run of calls: what it leaves, call by call. Assumes nothing.
-use Rattle.std.proofs.Common.{◌≡◌, ℕ, ◌+◌, ◌-◌, ◌<◌, ◌≤◌, List, [], ◌∷◌, ◌++◌, length, get_or, take, set, Ok, Err, Result, sym, refl, ap, ◌∙◌, subst, arith}
+use Rattle.std.proofs.Common.{◌≡◌, ℕ, ◌+◌, ◌<◌, ◌≤◌, List, [], ◌∷◌, ◌++◌, length, get_or, take, set, Result, sym, refl, ap, ◌∙◌, subst, arith}
 use Rattle.std.proofs.lemmas.List.{take_more, take_more_set, take_all}
 use Rattle.refusal.specs.declared.Refusal.{Refusal}
 use Rattle.reader.specs.Trees.{Bytes}
@@ -14,7 +14,7 @@ use Rattle.engine.specs.Lays.{Lays, setting, Told}
 use Rattle.writer.specs.declared.call.Call.{Call}
 use Rattle.places.specs.Values.{Chooses}
 use Rattle.writer.specs.Spelled.{CallIs, CallsAre}
-use Rattle.writer.specs.Served.{answered, all_answered, session, Served, Serves}
+use Rattle.writer.specs.Served.{answered, all_answered, session, Serves}
 use Rattle.writer.specs.Replayed.{Ran}
 use Rattle.writer.proofs.Lasting.{told_setting}
 

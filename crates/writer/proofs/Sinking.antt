@@ -1,16 +1,15 @@
 -- What a call leaves in the sink, by how it was answered. Assumes nothing.
-use Rattle.std.proofs.Common.{◌≡◌, ℕ, ◌+◌, ◌-◌, ◌<◌, ◌≤◌, List, [], ◌∷◌, ◌++◌, length, Ok, Err, Option, Result, sym, refl, ap, ◌∙◌, subst, arith}
+use Rattle.std.proofs.Common.{◌≡◌, ℕ, ◌-◌, [], ◌++◌, length, Ok, Err, Result, sym, refl, ap, ◌∙◌, subst, arith}
 use Rattle.std.proofs.lemmas.List.{append-nil}
 use Rattle.refusal.specs.declared.Refusal.{Refusal}
-use Rattle.style.specs.declared.indentation.Indentation.{Indentation}
 use Rattle.reader.specs.Trees.{Bytes}
-use Rattle.model.specs.Calls.{Call, call_open, call_field, call_value, call_end, call_finish, call_abandon}
+use Rattle.model.specs.Calls.{Call}
 use Rattle.model.specs.Model.{State}
 use Rattle.model.specs.Table.{Verdict, refuse, accept, verdict, handed}
 use Rattle.model.specs.Run.{Session, moved_on}
 use Rattle.engine.specs.Memory.{Mem}
-use Rattle.engine.specs.Lays.{Lays, setting, Told, Does}
-use Rattle.writer.specs.Served.{Served, Serves, session}
+use Rattle.engine.specs.Lays.{setting, Told, Does}
+use Rattle.writer.specs.Served.{Serves, session}
 
 clash : {A : Type 0} → ◌≡◌ {A = ℕ} 0 1 → A
 clash z = absurd (omega (arith, z))

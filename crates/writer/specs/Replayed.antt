@@ -4,9 +4,9 @@ use Rattle.style.specs.declared.indentation.Indentation.{Indentation}
 use Rattle.reader.specs.Trees.{Bytes}
 use Rattle.model.specs.declared.place.Place.TheVariants.{Idle}
 use Rattle.model.specs.Calls.{Call, Answer}
-use Rattle.model.specs.Marks.{Mark, tag_byte, text_byte, lead, indent, bytes_of_mark}
+use Rattle.model.specs.Marks.{Mark, tag_byte, lead, indent, bytes_of_mark}
 use Rattle.model.specs.Model.{State, idle}
-use Rattle.model.specs.Table.{Memory, Setting}
+use Rattle.model.specs.Table.{Memory}
 use Rattle.model.specs.Run.{run, answers, writer}
 use Rattle.model.specs.Fields.{Field, calls, names_attribute}
 use Rattle.model.specs.Documents.{accepted_calls, documents, layouts}

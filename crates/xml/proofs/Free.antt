@@ -1,5 +1,5 @@
 -- Bytes that stand nowhere in what an escaping rule writes. Assumes nothing.
-use Rattle.std.proofs.Common.{◌≡◌, ℕ, Bool, true, false, cond, not, ◌&&◌, ◌≢◌, List, [], ◌∷◌, ◌++◌, sym, refl, subst, ⊎_elim}
+use Rattle.std.proofs.Common.{◌≡◌, ℕ, Bool, true, false, cond, not, ◌≢◌, List, [], ◌∷◌, ◌++◌, sym, refl, subst, ⊎_elim}
 use Rattle.std.proofs.lemmas.Bool.{and_from, and_parts, both_ways, not_from_false, cases_Bool}
 use Rattle.xml.specs.declared.escape.Use.{Use}
 use Rattle.xml.specs.Escaping.{among, replacement, must, piece, escaped, Lawful}

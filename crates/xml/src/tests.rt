@@ -66,7 +66,7 @@ enum Kind {
 }
 
 // The first and the last character of each range, with their neighbours.
-const CHARACTERS: [(&str, Kind); 69] = [
+const CHARACTERS: &[(&str, Kind)] = &[
     ("\u{2C}", Kind::Neither),
     ("\u{2D}", Kind::Inside),
     ("\u{2E}", Kind::Inside),

@@ -1,7 +1,5 @@
-use Rattle.std.proofs.Common.{◌≡◌, ◌+◌, length, take, refl, ap, ◌∙◌, rules}
+use Rattle.std.proofs.Common.{refl, rules}
 use Rattle.std.proofs.lemmas.Slice.{overwrites}
-use Rattle.memory.specs.Laid.{laid}
-use Rattle.memory.proofs.Laying.{take-laid}
 use Rattle.memory.proofs.lay.Goals as goal
 
 pub returns : goal.returns

@@ -1,4 +1,4 @@
-use Rattle.std.proofs.Common.{◌≡◌, sym, refl, ap, ◌∙◌}
+use Rattle.std.proofs.Common.{sym, ap, ◌∙◌}
 use Rattle.refusal.specs.declared.Refusal.TheVariants.{Bytes as BytesAt}
 use Rattle.model.proofs.Spelling.{utf8_from}
 use Rattle.engine.proofs.Checking.{utf8_false, whole_is, bytes_refusal}

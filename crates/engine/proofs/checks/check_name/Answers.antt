@@ -1,4 +1,4 @@
-use Rattle.std.proofs.Common.{◌≡◌, IsUtf8, sym, refl, ap, ◌∙◌, subst}
+use Rattle.std.proofs.Common.{sym, ap, ◌∙◌, subst}
 use Rattle.xml.specs.Names.{Name, name_fault}
 use Rattle.model.proofs.Spelling.{utf8_true}
 use Rattle.engine.proofs.Checking.{name_faultless, name_refusal}

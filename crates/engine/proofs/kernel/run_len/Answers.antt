@@ -1,4 +1,4 @@
-use Rattle.std.proofs.Common.{◌*◌, ◌≤◌, refl, mul-le-mul, arith}
+use Rattle.std.proofs.Common.{◌≤◌, refl, mul-le-mul, arith}
 use Rattle.engine.proofs.kernel.run_len.Goals as goal
 
 pub returns : goal.returns

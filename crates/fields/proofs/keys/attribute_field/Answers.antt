@@ -6,21 +6,21 @@ use Rattle.fields.proofs.AttributeKeys.{behind_at, fault_within, attribute_key_f
 use Rattle.fields.proofs.keys.attribute_field.Goals as goal
 
 pub check_name-requires : goal.check_name-requires
-check_name-requires c = behind_at c.args.name.now c.requires.1
+check_name-requires c = behind_at c.args.name.now c.requires.name_value
 
-pub overflow-add-result : goal.overflow-add-result
-overflow-add-result c =
+pub overflow_add-result : goal.overflow_add-result
+overflow_add-result c =
     let n = c.args.name.now in
-    omega (arith, fault_within n (offset c.in-Err.fault) (behind_at n c.requires.1) c.in-Err.ensures.checked.0, c.offset.ensures.value)
+    omega (arith, fault_within n (offset c.in-Err.fault) (behind_at n c.requires.name_value) c.in-Err.ensures.checked.0, c.offset.ensures.value)
 
 pub returns-then-room-name : goal.returns-then-room-name
 returns-then-room-name c =
     let n = c.args.name.now in
     let p = c.requires in
-    record { does = λ room. attribute_key_full n room (mem c.args.core.now) p.0.0 p.0.1.1.1 p.1 c.in-Ok.ensures.checked (omega (arith, length-append n (codes "=\""))) }
+    record { does = λ room. attribute_key_full n room (mem c.args.core.now) p.safe.0 p.safe.1.1.1 p.name_value c.in-Ok.ensures.checked (omega (arith, length-append n (codes "=\""))) }
 
 pub returns-else-room-name : goal.returns-else-room-name
 returns-else-room-name c =
     let n = c.args.name.now in
     let p = c.requires in
-    record { does = λ room. attribute_key n room (mem c.args.core.now) p.0.0 p.0.1.1.1 p.1 c.in-Ok.ensures.checked (mem c.insert.new.self) (omega (arith, length-append n (codes "=\""))) c.insert.ensures.memory }
+    record { does = λ room. attribute_key n room (mem c.args.core.now) p.safe.0 p.safe.1.1.1 p.name_value c.in-Ok.ensures.checked (mem c.insert.new.self) (omega (arith, length-append n (codes "=\""))) c.insert.ensures.memory }

@@ -10,7 +10,7 @@ pub attribute_field-requires : goal.attribute_field-requires
 attribute_field-requires c =
     let k = c.args.key.now in
     let same : k ≡ 64 ∷ take (length k - 1) (drop 1 k) = search (rules, first_rest) in
-    (search rules, subst (λ x. utf8 x ≡ true) same c.in-Ok.ensures.checked)
+    record { safe = search rules; name_value = subst (λ x. utf8 x ≡ true) same c.in-Ok.ensures.checked }
 
 pub returns-in-64 : goal.returns-in-64
 returns-in-64 c =

@@ -1,4 +1,4 @@
-use Rattle.std.proofs.Common.{◌≡◌, ◌<◌, sym, refl, ap, ◌∙◌, arith, rules}
+use Rattle.std.proofs.Common.{sym, ap, ◌∙◌, arith, rules}
 use Rattle.engine.specs.Memory.{mem, popped, settled}
 use Rattle.nests.proofs.Leaving.{content_end, content_refused}
 use Rattle.nests.proofs.ends.end_at_content.Goals as goal
@@ -14,6 +14,6 @@ returns-in-Content c =
           (c.settle.ensures.memory ∙ ap (λ f. settled f.last (popped w)) c.top-top.ensures.value);
     }
 
-pub returns-in-default : goal.returns-in-default
-returns-in-default c =
-    record { does = λ room m lay. content_refused room m (mem c.args.core.now) (search rules) lay c.args.texts (search rules) (λ d k. c.in-default.not-Content (ap (λ f. f.kind) c.top-top.ensures.value ∙ k)) }
+pub returns-in_default : goal.returns-in_default
+returns-in_default c =
+    record { does = λ room m lay. content_refused room m (mem c.args.core.now) (search rules) lay c.args.texts (search rules) (λ d k. c.in_default.not-Content (ap (λ f. f.kind) c.top-top.ensures.value ∙ k)) }

@@ -1,4 +1,4 @@
-use Rattle.std.proofs.Common.{◌≡◌, ◌<◌, sym, refl, ap, ◌∙◌, arith, rules}
+use Rattle.std.proofs.Common.{sym, ap, ◌∙◌, arith, rules}
 use Rattle.engine.specs.Memory.{mem}
 use Rattle.nests.proofs.Leaving.{named_end, named_refused}
 use Rattle.nests.proofs.ends.end_at_element.Goals as goal
@@ -10,6 +10,6 @@ pub returns-in-Named : goal.returns-in-Named
 returns-in-Named c =
     record { does = λ room m lay. named_end room m (mem c.args.core.now) (search rules) lay c.args.from (mem c.settle.new.self) (search rules) (sym (ap (λ f. f.kind) c.top.ensures.value) ∙ c.in-Named.is) c.settle.ensures.memory }
 
-pub returns-in-default : goal.returns-in-default
-returns-in-default c =
-    record { does = λ room m lay. named_refused room m (mem c.args.core.now) (search rules) lay c.args.from (search rules) (λ d k. c.in-default.not-Named (ap (λ f. f.kind) c.top.ensures.value ∙ k)) }
+pub returns-in_default : goal.returns-in_default
+returns-in_default c =
+    record { does = λ room m lay. named_refused room m (mem c.args.core.now) (search rules) lay c.args.from (search rules) (λ d k. c.in_default.not-Named (ap (λ f. f.kind) c.top.ensures.value ∙ k)) }

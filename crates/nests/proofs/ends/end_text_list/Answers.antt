@@ -1,4 +1,4 @@
-use Rattle.std.proofs.Common.{◌≡◌, refl, ap, ◌∙◌, rules}
+use Rattle.std.proofs.Common.{rules}
 use Rattle.engine.specs.Memory.{mem}
 use Rattle.nests.proofs.Leaving.{words_end}
 use Rattle.nests.proofs.ends.end_text_list.Goals as goal

@@ -1,4 +1,4 @@
-use Rattle.std.proofs.Common.{◌≡◌, refl, ap, ◌∙◌, rules}
+use Rattle.std.proofs.Common.{ap, rules}
 use Rattle.engine.specs.Memory.{mem}
 use Rattle.nests.proofs.Rowing.{element_row}
 use Rattle.nests.proofs.rows.row_at_element.Goals as goal

@@ -1,4 +1,4 @@
-use Rattle.std.proofs.Common.{◌≡◌, refl, ap, ◌∙◌, rules}
+use Rattle.std.proofs.Common.{rules}
 use Rattle.engine.specs.Memory.{mem}
 use Rattle.nests.proofs.Rowing.{text_list}
 use Rattle.nests.proofs.rows.row_at_text.Goals as goal

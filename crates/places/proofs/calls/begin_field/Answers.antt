@@ -1,4 +1,3 @@
-use Rattle.std.proofs.Common.{rules}
 use Rattle.engine.specs.Memory.{mem}
 use Rattle.places.proofs.Standing.{field_ready}
 use Rattle.places.proofs.calls.begin_field.Goals as goal

@@ -1,4 +1,3 @@
-use Rattle.std.proofs.Common.{rules}
 use Rattle.engine.specs.Memory.{mem}
 use Rattle.places.proofs.Standing.{end_ready, list_ready, attribute_list_ready}
 use Rattle.places.proofs.calls.end_at.Goals as goal

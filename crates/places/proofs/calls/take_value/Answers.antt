@@ -1,5 +1,4 @@
 -- Each row relies on numbers that hold at its place, since the memory holds some model.
-use Rattle.std.proofs.Common.{rules}
 use Rattle.engine.specs.Memory.{mem}
 use Rattle.places.proofs.Standing.{element_ready, element_row_ready, content_ready, text_ready, simple_ready, attribute_ready, attribute_list_ready}
 use Rattle.places.proofs.calls.take_value.Goals as goal

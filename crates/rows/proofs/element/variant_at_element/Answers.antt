@@ -1,12 +1,12 @@
-use Rattle.std.proofs.Common.{◌≡◌, ℕ, true, false, length, Err, sym, refl, ◌∙◌, subst, arith, rules}
+use Rattle.std.proofs.Common.{◌≡◌, false, Err, sym, refl, ◌∙◌, subst, rules}
 use Rattle.style.specs.declared.result.WriteResult.TheVariants.{Element as element_result}
 use Rattle.xml.specs.declared.escape.Use.TheVariants.{Text as text_use}
 use Rattle.xml.specs.Escaping.{escaped}
 use Rattle.model.specs.declared.place.Place.TheVariants.{Element}
-use Rattle.model.specs.Calls.{val_text, val_variant}
+use Rattle.model.specs.Calls.{val_variant}
 use Rattle.engine.specs.Memory.{mem, Safe}
 use Rattle.rows.specs.Pieces.{Writes, text_bytes, name_of}
-use Rattle.rows.proofs.Elemental.{element_empty, element_text, element_ill_formed, escaped_by, text_none, text_some, variant_none, variant_some}
+use Rattle.rows.proofs.Elemental.{element_empty, element_text, element_ill_formed, escaped_by, variant_none, variant_some}
 use Rattle.rows.proofs.element.variant_at_element.Goals as goal
 
 pub returns-in-Err : goal.returns-in-Err

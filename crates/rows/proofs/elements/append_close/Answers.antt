@@ -1,4 +1,4 @@
-use Rattle.std.proofs.Common.{◌≡◌, codes, sym, ap, ◌∙◌, arith, rules}
+use Rattle.std.proofs.Common.{codes, ◌∙◌, arith}
 use Rattle.engine.specs.Memory.{mem}
 use Rattle.rows.proofs.Written.{name_length, around_name}
 use Rattle.rows.proofs.elements.append_close.Goals as goal

@@ -1,12 +1,7 @@
-use Rattle.std.proofs.Common.{◌≡◌, ℕ, ◌+◌, ◌-◌, ◌<◌, ◌≤◌, false, List, ◌++◌, length, codes, sym, refl, ap, ◌∙◌, arith, rules}
-use Rattle.style.specs.declared.result.WriteResult.TheVariants.{Element as element_result}
-use Rattle.xml.specs.declared.escape.Use.TheVariants.{Text as text_use}
-use Rattle.xml.specs.Escaping.{escaped}
-use Rattle.model.specs.Marks.{shut}
-use Rattle.engine.specs.Memory.{mem, appended, worded, settled}
-use Rattle.engine.proofs.Appending.{appended-++}
-use Rattle.rows.specs.Pieces.{lead_of, name_of, empty_bytes, open_bytes, close_bytes, text_bytes}
-use Rattle.rows.proofs.Written.{name_length, close_length, open_length, empty_length, text_length, around_name, after, empty_written, shut_after, text_written}
+use Rattle.std.proofs.Common.{◌+◌, ◌≤◌, length, codes, ◌∙◌, arith, rules}
+use Rattle.engine.specs.Memory.{mem}
+use Rattle.rows.specs.Pieces.{lead_of, name_of}
+use Rattle.rows.proofs.Written.{name_length, open_length, around_name, after}
 use Rattle.rows.proofs.elements.append_open.Goals as goal
 
 pub append_start-requires : goal.append_start-requires

@@ -1,12 +1,9 @@
-use Rattle.std.proofs.Common.{◌≡◌, ℕ, ◌+◌, ◌-◌, ◌<◌, ◌≤◌, false, List, ◌++◌, length, codes, sym, refl, ap, ◌∙◌, arith, rules}
-use Rattle.style.specs.declared.result.WriteResult.TheVariants.{Element as element_result}
-use Rattle.xml.specs.declared.escape.Use.TheVariants.{Text as text_use}
-use Rattle.xml.specs.Escaping.{escaped}
+use Rattle.std.proofs.Common.{◌+◌, ◌≤◌, length, codes, sym, ap, ◌∙◌, arith, rules}
 use Rattle.model.specs.Marks.{shut}
-use Rattle.engine.specs.Memory.{mem, appended, worded, settled}
+use Rattle.engine.specs.Memory.{mem, appended}
 use Rattle.engine.proofs.Appending.{appended-++}
-use Rattle.rows.specs.Pieces.{lead_of, name_of, empty_bytes, open_bytes, close_bytes, text_bytes}
-use Rattle.rows.proofs.Written.{name_length, close_length, open_length, empty_length, text_length, around_name, after, empty_written, shut_after, text_written}
+use Rattle.rows.specs.Pieces.{name_of, close_bytes}
+use Rattle.rows.proofs.Written.{name_length, close_length, after}
 use Rattle.rows.proofs.elements.append_shut.Goals as goal
 
 pub append_close-requires : goal.append_close-requires

@@ -1,4 +1,4 @@
-use Rattle.std.proofs.Common.{◌≡◌, [], ◌∷◌, length, codes, sym, ap, ◌∙◌, arith}
+use Rattle.std.proofs.Common.{length, codes, ap, arith}
 use Rattle.std.proofs.lemmas.List.{length-append}
 use Rattle.model.specs.Marks.{shut}
 use Rattle.rows.proofs.elements.shut_len.Goals as goal

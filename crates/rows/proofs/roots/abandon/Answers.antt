@@ -1,5 +1,5 @@
-use Rattle.std.proofs.Common.{◌≡◌, sym, refl, ◌∙◌, rules}
-use Rattle.engine.specs.Memory.{mem, Safe}
+use Rattle.std.proofs.Common.{sym, ◌∙◌}
+use Rattle.engine.specs.Memory.{mem}
 use Rattle.rows.proofs.Rooting.{abandon_ok, abandon_refused}
 use Rattle.rows.proofs.roots.abandon.Goals as goal
 

@@ -1,7 +1,7 @@
 use Rattle.std.proofs.Common.{◌≡◌, rules}
 use Rattle.model.specs.declared.place.Place.TheVariants.{Idle}
 use Rattle.engine.specs.Memory.{mem, Safe}
-use Rattle.rows.proofs.Rooting.{open_told, open_ill_formed, open_misnamed}
+use Rattle.rows.proofs.Rooting.{open_told}
 use Rattle.rows.proofs.roots.open.Goals as goal
 
 pub returns-in-Ok-check_name : goal.returns-in-Ok-check_name

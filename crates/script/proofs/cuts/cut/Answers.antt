@@ -1,4 +1,4 @@
-use Rattle.std.proofs.Common.{◌+◌, Some, sym, ap, ◌∙◌, arith, rules, eq-eqb, ne_eqb}
+use Rattle.std.proofs.Common.{◌+◌, Some, sym, ap, ◌∙◌, rules, eq-eqb, ne_eqb}
 use Rattle.std.proofs.lemmas.List.{take_rest}
 use Rattle.script.proofs.Cutting.{unseen_none, unseen_more, cut_here, cut_nowhere}
 use Rattle.script.proofs.cuts.cut.Goals as goal

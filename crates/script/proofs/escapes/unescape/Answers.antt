@@ -1,9 +1,8 @@
-use Rattle.std.proofs.Common.{◌≡◌, ℕ, ◌+◌, List, [], ◌∷◌, ◌++◌, is_ok, vec_items, sym, refl, ap, ◌∙◌, subst, inl, inr, rules}
-use Rattle.std.proofs.ResultArms.{chosen}
+use Rattle.std.proofs.Common.{◌≡◌, [], ◌∷◌, ◌++◌, vec_items, sym, refl, ap, ◌∙◌, subst, inr}
 use Rattle.script.specs.declared.escapes.Place.{Place}
 use Rattle.script.proofs.Unescaping.{Reached, reached_as, reached_none, reached_byte, reached_place, stuck, whole_end, open_end}
 use Rattle.script.proofs.escapes.unescape.Goals as goal
-use Rattle.script.proofs.escapes.unescape.Goals.{in-Byte+in-ok-push, in-On}
+use Rattle.script.proofs.escapes.unescape.Goals.{in-Byte+in_ok-push-in-Byte, in-On}
 
 pub loop-c-init : goal.loop-c-init
 loop-c-init c = subst (Reached c.args.text.now 0 _) (sym c.new-bytes.ensures.items) (reached_none c.args.text.now)
@@ -19,9 +18,9 @@ loop-c-preserved c =
     let l = c.loop-c in
     let text = c.args.text.now in
     elim c.match-next_step.branch [
-      | in-Byte+in-ok-push w ↦
+      | in-Byte+in_ok-push-in-Byte w ↦
           let longer : vec_items c.match-next_step.bytes ≡ vec_items l.bytes ++ w.in-Byte.byte ∷ [] =
-          ◌∙◌ {c = vec_items l.bytes ++ w.in-Byte.byte ∷ []} (ap vec_items w.bytes-is) w.in-ok-push.ensures.items in
+          ◌∙◌ {c = vec_items l.bytes ++ w.in-Byte.byte ∷ []} (ap vec_items w.bytes-is) w.in_ok-push-in-Byte.ensures.items in
           reached_as
           (reached_byte text l.c-index l.place (vec_items l.bytes) w.in-Byte.byte c.loop-c-test.true w.in-Byte.ensures.value l.invariant)
           w.place-is
@@ -41,8 +40,8 @@ returns-in-Outside c =
     let at : Reached text l.c-index _ (vec_items l.bytes) = subst (λ (p : Place). Reached text l.c-index p (vec_items l.bytes)) c.in-Outside.is l.invariant in
     record { cases = whole_end text l.c-index (vec_items l.bytes) c.loop-c-test.false at }
 
-pub returns-in-default : goal.returns-in-default
-returns-in-default c =
+pub returns-in_default : goal.returns-in_default
+returns-in_default c =
     let l = c.loop-c in
-    let none = open_end c.args.text.now l.c-index l.place (vec_items l.bytes) c.loop-c-test.false c.in-default.not-Outside l.invariant in
+    let none = open_end c.args.text.now l.c-index l.place (vec_items l.bytes) c.loop-c-test.false c.in_default.not-Outside l.invariant in
     record { cases = inr (refl, none) }

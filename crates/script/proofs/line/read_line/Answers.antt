@@ -1,8 +1,6 @@
-use Rattle.std.proofs.Common.{◌≡◌, false, [], None, vec_items, unwrap_or, sym, ap, ◌∙◌}
-use Rattle.script.specs.Cuts.{after_word}
+use Rattle.std.proofs.Common.{[], vec_items, unwrap_or, sym, ap, ◌∙◌}
 use Rattle.script.specs.Escapes.{unescaped}
-use Rattle.script.specs.Words.{takes_argument}
-use Rattle.script.specs.Says.{Spoken, Begins, argument_text}
+use Rattle.script.specs.Says.{Begins}
 use Rattle.script.proofs.Saying.{said}
 use Rattle.script.proofs.line.read_line.Goals as goal
 
@@ -10,13 +8,13 @@ pub returns : goal.returns
 returns c =
     let line = c.args.line.now in
     let word = c.in-Some.word in
-    let bs = vec_items c.in-ok-argument.argument in
+    let bs = vec_items c.in_ok-argument.argument in
     let back = c.cut.ensures.back in
-    let written = c.in-ok-written.ensures.cases in
+    let written = c.in_ok-written.ensures.cases in
     let begins : Begins line word = record {
       says = sym c.is_blank.ensures.value ∙ c.if-is_blank.false;
       word = sym c.cut.ensures.front ∙ c.in-Some.ensures.names;
       alone = λ none. sym back ∙ written.1 none;
     } in
-    let argument = ap unescaped (ap (λ o. unwrap_or o []) (sym back) ∙ sym written.0) ∙ c.in-ok-argument.ensures.cases in
+    let argument = ap unescaped (ap (λ o. unwrap_or o []) (sym back) ∙ sym written.0) ∙ c.in_ok-argument.ensures.cases in
     record { cases = said line word bs c.line_of.result (record { begins = begins; argument = argument }) c.line_of.ensures.cases }

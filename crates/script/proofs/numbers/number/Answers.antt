@@ -1,4 +1,4 @@
-use Rattle.std.proofs.Common.{◌≡◌, ◌<◌, length, sym, refl, ◌∙◌, arith, false-eqb}
+use Rattle.std.proofs.Common.{◌<◌, length, sym, refl, ◌∙◌, arith, false-eqb}
 use Rattle.script.proofs.Counting.{counted_none, counted_more, counted_past, counted_stray, counted_all}
 use Rattle.script.proofs.numbers.number.Goals as goal
 

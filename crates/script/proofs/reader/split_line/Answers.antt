@@ -1,4 +1,4 @@
-use Rattle.std.proofs.Common.{◌≡◌, ◌<◌, [], length, unwrap_or, sym, refl, ap, ◌∙◌, subst, arith}
+use Rattle.std.proofs.Common.{◌≡◌, [], length, unwrap_or, refl, ap, ◌∙◌, arith}
 use Rattle.script.specs.Cuts.{later_lines}
 use Rattle.script.proofs.Cutting.{later_shorter, value_held}
 use Rattle.script.proofs.reader.split_line.Goals as goal

@@ -1,5 +1,5 @@
 -- Calls that hand nothing to the sink leave it as it was; a finish promises the rest itself.
-use Rattle.std.proofs.Common.{◌≡◌, Ok, Err, sym, refl, ap, ◌∙◌, subst, rules}
+use Rattle.std.proofs.Common.{Ok, Err, sym, refl, subst}
 use Rattle.model.specs.Calls.{call_open, call_field, call_value, call_end, call_abandon}
 use Rattle.engine.specs.Memory.{mem}
 use Rattle.writer.specs.declared.call.Call.TheVariants.{Value as value_call}

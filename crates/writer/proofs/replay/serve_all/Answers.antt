@@ -1,4 +1,4 @@
-use Rattle.std.proofs.Common.{◌≡◌, length, arith, rules}
+use Rattle.std.proofs.Common.{arith}
 use Rattle.std.proofs.lemmas.List.{length-set}
 use Rattle.engine.specs.Memory.{mem}
 use Rattle.writer.proofs.Running.{ran_from, one_more, all_of_them}

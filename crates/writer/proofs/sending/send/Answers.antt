@@ -1,4 +1,4 @@
-use Rattle.std.proofs.Common.{◌≡◌, ℕ, ◌-◌, take, drop, sym, refl, ap, ◌∙◌, arith, rules}
+use Rattle.std.proofs.Common.{◌∙◌}
 use Rattle.engine.specs.Memory.{mem}
 use Rattle.writer.proofs.Finishing.{sent_full, sent_whole, all_of_it}
 use Rattle.writer.proofs.sending.send.Goals as goal

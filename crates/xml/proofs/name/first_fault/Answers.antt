@@ -1,4 +1,4 @@
-use Rattle.std.proofs.Common.{◌≡◌, List, ◌++◌, length, Some, IsUtf8, sym, ◌∙◌, rules}
+use Rattle.std.proofs.Common.{◌≡◌, ◌++◌, length, Some, IsUtf8, sym, ◌∙◌, rules}
 use lib.Utf8.{encode}
 use Rattle.std.specs.Str.Iter.{chars_rest}
 use Rattle.xml.proofs.Naming.{faults_of, fault_empty, fault_first, fault_later}

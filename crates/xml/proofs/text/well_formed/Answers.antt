@@ -1,5 +1,4 @@
 use Rattle.std.proofs.Common.{sym, refl, subst}
-use Rattle.std.specs.Str.{IsValidUpTo}
 use Rattle.xml.specs.Text.{LongestWhole}
 use Rattle.xml.proofs.Wholes.{longest_whole}
 use Rattle.xml.proofs.text.well_formed.Goals as goal

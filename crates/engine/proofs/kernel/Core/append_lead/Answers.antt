@@ -1,6 +1,5 @@
-use Rattle.std.proofs.Common.{◌≡◌, ℕ, ◌+◌, ◌*◌, ◌≤◌, List, [], ◌∷◌, ◌++◌, length, replicate, sym, ap, ◌∙◌, arith}
+use Rattle.std.proofs.Common.{ℕ, ◌+◌, ◌≤◌, List, [], ◌∷◌, ◌++◌, length, replicate, sym, ap, ◌∙◌, arith}
 use Rattle.std.proofs.lemmas.List.{length-replicate}
-use Rattle.model.specs.Marks.{bytes_of_mark, less_than}
 use Rattle.engine.specs.Memory.{mem, appended}
 use Rattle.engine.proofs.Leads.{length-lead, lead_is}
 use Rattle.engine.proofs.Appending.{appended_three}

@@ -1,7 +1,6 @@
-use Rattle.std.proofs.Common.{◌≡◌, ℕ, ◌+◌, ◌≤◌, List, ◌++◌, length, set, sym, refl, ap, ◌∙◌, arith}
+use Rattle.std.proofs.Common.{◌≡◌, ℕ, ◌+◌, ◌≤◌, List, ◌++◌, length, refl, ap, ◌∙◌, arith}
 use Rattle.std.proofs.lemmas.List.{length-append}
 use Rattle.memory.specs.Opened.{opened}
-use Rattle.engine.specs.Frames.{longer_tag}
 use Rattle.engine.specs.Memory.{mem, frame_at}
 use Rattle.engine.proofs.Inserting.{put_pieces, in_tag_is}
 use Rattle.engine.proofs.kernel.Core.insert.Goals as goal

@@ -1,4 +1,4 @@
-use Rattle.std.proofs.Common.{◌≡◌, ◌+◌, ◌*◌, ◌/◌, ◌%◌, ◌<◌, length, get_or, sym, ap, ◌∙◌, arith, rules}
+use Rattle.std.proofs.Common.{◌≡◌, ◌+◌, ◌*◌, ◌/◌, ◌%◌, length, get_or, sym, ap, ◌∙◌, arith, rules}
 use Rattle.sink.specs.Pages.{flat}
 use Rattle.sink.proofs.Paging.{flat_get}
 use Rattle.sink.proofs.pages.Pages.get.Goals as goal

@@ -1,4 +1,4 @@
-use Rattle.std.proofs.Common.{◌≡◌, ◌+◌, ◌*◌, ◌/◌, ◌%◌, ◌<◌, length, set, sym, ap, ◌∙◌, arith, length-set, rules}
+use Rattle.std.proofs.Common.{◌≡◌, ◌+◌, ◌*◌, ◌/◌, ◌%◌, length, set, ap, ◌∙◌, arith, length-set, rules}
 use Rattle.sink.specs.Pages.{flat}
 use Rattle.sink.proofs.Paging.{flat_set, flat_length}
 use Rattle.sink.proofs.pages.Pages.store.Goals as goal

@@ -1,4 +1,3 @@
-use Rattle.std.proofs.Common.{rules}
 use Rattle.model.specs.Calls.{call_end}
 use Rattle.engine.specs.Memory.{mem}
 use Rattle.places.specs.Sound.{Sizes}
@@ -12,8 +11,9 @@ end_at-requires c =
     let z : Sizes (mem s.core) = record { stage = s.stage; names = s.names; frames = s.frames; indent = s.indent } in
     (safe (mem s.core) s.sound z, s.sound)
 
-pub invariant-of-self : goal.invariant-of-self
-invariant-of-self c =
+pub invariant_of-self : goal.invariant_of-self
+invariant_of-self c =
     let s = c.args.self.now in
     let z : Sizes (mem s.core) = record { stage = s.stage; names = s.names; frames = s.frames; indent = s.indent } in
-    lasts call_end 0 c.end_at.result (mem s.core) (mem c.end_at.new.core) s.sound z (c.end_at.ensures.does 0)
+    let kept = lasts call_end 0 c.end_at.result (mem s.core) (mem c.end_at.new.core) s.sound z (c.end_at.ensures.does 0) in
+    record { sound = kept.0; stage = kept.1.stage; names = kept.1.names; frames = kept.1.frames; indent = kept.1.indent }

@@ -1,4 +1,4 @@
-use Rattle.std.proofs.Common.{◌≡◌, length, take, drop, sym, refl, ap, ◌∙◌, subst, rules}
+use Rattle.std.proofs.Common.{◌≡◌, length, drop, sym, refl, subst, rules}
 use Rattle.std.proofs.lemmas.List.{take_at}
 use Rattle.engine.specs.Memory.{mem}
 use Rattle.writer.specs.Served.{all_answered}

@@ -1,4 +1,3 @@
-use Rattle.std.proofs.Common.{rules}
 use Rattle.model.specs.Calls.{call_value}
 use Rattle.engine.specs.Memory.{mem}
 use Rattle.places.specs.Sound.{Sizes}
@@ -13,9 +12,10 @@ take_value-requires g c =
     let z : Sizes (mem s.core) = record { stage = s.stage; names = s.names; frames = s.frames; indent = s.indent } in
     (safe (mem s.core) s.sound z, s.sound)
 
-pub invariant-of-self : goal.invariant-of-self
-invariant-of-self g c =
+pub invariant_of-self : goal.invariant_of-self
+invariant_of-self g c =
     let s = c.args.self.now in
     let z : Sizes (mem s.core) = record { stage = s.stage; names = s.names; frames = s.frames; indent = s.indent } in
     let meant = value_meant g.R.EscapeRule.chooses g.met.R.EscapeRule.within g.met.R.EscapeRule.enough c.args.value.now in
-    lasts (call_value meant.0) 0 c.take_value.result (mem s.core) (mem c.take_value.new.core) s.sound z (c.take_value.ensures.does 0 meant.0 meant.1)
+    let kept = lasts (call_value meant.0) 0 c.take_value.result (mem s.core) (mem c.take_value.new.core) s.sound z (c.take_value.ensures.does 0 meant.0 meant.1) in
+    record { sound = kept.0; stage = kept.1.stage; names = kept.1.names; frames = kept.1.frames; indent = kept.1.indent }
