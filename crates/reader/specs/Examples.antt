@@ -1,6 +1,6 @@
 -- Readings worked by hand, and bytes that have none. Assumes nothing.
 use Rattle.std.specs.Prelude.{List, [], ◌∷◌, ◌++◌, codes}
-use Rattle.std.specs.List.{AllByRecursion as All}
+use Rattle.std.specs.List.{AllByRecursion}
 use Rattle.reader.specs.Trees.{Bytes, done, text, elem, Tree, tree, empty}
 use Rattle.reader.specs.Reader.{Reads}
 
@@ -30,7 +30,7 @@ abbrev pub nothing : Reading
 nothing = record { bytes = []; says = [] }
 
 abbrev pub ExampleReads : Type 0
-ExampleReads = All (λ (e : Reading). Reads e.bytes e.says) (titled ∷ white_space ∷ repeated ∷ nothing ∷ [])
+ExampleReads = AllByRecursion (λ (e : Reading). Reads e.bytes e.says) (titled ∷ white_space ∷ repeated ∷ nothing ∷ [])
 
 -- what no text and no value may hold: a raw ]]>, a & that begins none of the nine references, a < or a lone " in a value
 abbrev pub unreadable_text : List Bytes
@@ -49,4 +49,4 @@ abbrev pub unreadable_bytes : List Bytes
 unreadable_bytes = (codes "<a>" ++ (128 ∷ codes "</a>")) ∷ []
 
 abbrev pub ExampleUnreadable : Type 0
-ExampleUnreadable = All (λ (bs : Bytes). (ts : List Tree) → Reads bs ts → ⊥) ((unreadable_text ++ (unreadable_tags ++ unreadable_rows)) ++ unreadable_bytes)
+ExampleUnreadable = AllByRecursion (λ (bs : Bytes). (ts : List Tree) → Reads bs ts → ⊥) ((unreadable_text ++ (unreadable_tags ++ unreadable_rows)) ++ unreadable_bytes)
