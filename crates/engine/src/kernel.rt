@@ -112,8 +112,8 @@ impl Core<'_> {
 
     /// Appends a part of the name stack to the stage.
     pub fn append_name(&mut self, from: usize, end: usize)
-        requires from_le_end { (from ≤ end) × (end ≤ length self.old.names.at.now) }
-        requires from_in_bounds { self.old.used + (end - from) ≤ length self.old.stage.at.now }
+        requires part { (from ≤ end) × (end ≤ length self.old.names.at.now) }
+        requires room { self.old.used + (end - from) ≤ length self.old.stage.at.now }
         ensures memory { mem self.new ≡ appended (name_at (mem self.old) from end) (mem self.old) }
         ensures used { self.new.used ≡ self.old.used + (end - from) }
         ensures len { length self.new.stage.at.now ≡ length self.old.stage.at.now }
@@ -165,8 +165,8 @@ impl Core<'_> {
 
     /// Appends the `<` of a tag, with or without an indent before it; `around` is how many records are open around the tag.
     pub fn append_lead(&mut self, indented: bool, around: usize)
-        requires indentation_bound { (indent_size self.old.indentation ≤ 16) × (around ≤ 64) }
-        requires around_in_bounds { self.old.used + length (bytes_of_mark self.old.indentation (less_than indented around)) ≤ length self.old.stage.at.now }
+        requires narrow { (indent_size self.old.indentation ≤ 16) × (around ≤ 64) }
+        requires room { self.old.used + length (bytes_of_mark self.old.indentation (less_than indented around)) ≤ length self.old.stage.at.now }
         ensures memory { mem self.new ≡ appended (bytes_of_mark self.old.indentation (less_than indented around)) (mem self.old) }
         ensures used { self.new.used ≡ self.old.used + length (bytes_of_mark self.old.indentation (less_than indented around)) }
         ensures len { length self.new.stage.at.now ≡ length self.old.stage.at.now }
@@ -187,8 +187,8 @@ impl Core<'_> {
 
     /// Puts three pieces in at the end of the open tag of the record whose frame stands at `frame`, before its children.
     pub fn insert(&mut self, frame: usize, front: &[u8], middle: &[u8], back: &[u8])
-        requires frame_in_bounds { (frame < length self.old.frames.at.now) × ((frame_at (mem self.old) frame).tag ≤ self.old.used) }
-        requires back_in_bounds { (self.old.used + (length front.now + (length middle.now + length back.now)) ≤ length self.old.stage.at.now) × (length self.old.stage.at.now ≤ 65536) }
+        requires within { (frame < length self.old.frames.at.now) × ((frame_at (mem self.old) frame).tag ≤ self.old.used) }
+        requires room { (self.old.used + (length front.now + (length middle.now + length back.now)) ≤ length self.old.stage.at.now) × (length self.old.stage.at.now ≤ 65536) }
         ensures memory { mem self.new ≡ in_tag frame (front.now ++ (middle.now ++ back.now)) (mem self.old) }
     {
         let tag = self.frames.get(frame).tag;
@@ -212,9 +212,9 @@ impl Core<'_> {
         len: usize,
         back: &[u8],
     )
-        requires frame_in_bounds { (frame < length self.old.frames.at.now) × ((frame_at (mem self.old) frame).tag ≤ self.old.used) }
-        requires back_in_bounds { (self.old.used + (length front.now + (len + length back.now)) ≤ length self.old.stage.at.now) × (length self.old.stage.at.now ≤ 65536) }
-        requires len_value { len ≡ length (escaped (R.EscapeRule.chooses rule.now target) value.now) }
+        requires within { (frame < length self.old.frames.at.now) × ((frame_at (mem self.old) frame).tag ≤ self.old.used) }
+        requires room { (self.old.used + (length front.now + (len + length back.now)) ≤ length self.old.stage.at.now) × (length self.old.stage.at.now ≤ 65536) }
+        requires measured { len ≡ length (escaped (R.EscapeRule.chooses rule.now target) value.now) }
         ensures memory { mem self.new ≡ in_tag frame (front.now ++ (escaped (R.EscapeRule.chooses rule.now target) value.now ++ back.now)) (mem self.old) }
     {
         let tag = self.frames.get(frame).tag;

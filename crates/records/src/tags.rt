@@ -57,7 +57,7 @@ fn begin_fields(core: &mut Core<'_>)
 // Opens a tag of the name that begins at `from` on the name stack.
 fn open_record(core: &mut Core<'_>, from: usize)
     requires safe { (Safe (mem core.old)) × ((0 < core.old.depth) × ((core.old.depth < length core.old.frames.at.now) × (from ≤ core.old.named))) }
-    requires from_in_bounds { core.old.used + (length (lead_of (mem core.old)) + (core.old.named - from)) ≤ length core.old.stage.at.now }
+    requires room { core.old.used + (length (lead_of (mem core.old)) + (core.old.named - from)) ≤ length core.old.stage.at.now }
     ensures memory { mem core.new ≡ opened_record (tag_start (mem core.old) from) from (mem core.old) }
 {
     let end = core.named;

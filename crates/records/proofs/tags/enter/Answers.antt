@@ -19,7 +19,7 @@ open_record-requires c =
     let used = ap (λ y. y.stage.used) e in
     let stage = ap (λ y. length y.stage.all) e in
     let lead = ap (λ y. length (lead_of y)) e in
-    record { safe = (safe_named w x c.args.name.now e fit.1 (search rules), (omega arith, (omega (arith, free.0), omega arith))); from_in_bounds = omega (arith, free.1) }
+    record { safe = (safe_named w x c.args.name.now e fit.1 (search rules), (omega arith, (omega (arith, free.0), omega arith))); room = omega (arith, free.1) }
 
 pub returns-in-Err : goal.returns-in-Err
 returns-in-Err c =
