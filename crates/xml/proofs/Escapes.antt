@@ -7,7 +7,8 @@ use Rattle.xml.specs.declared.escape.Use.TheVariants.{Text, Attribute, TextItem,
 use Rattle.xml.specs.Escaping.{among, replacement, must, escaped, Lawful}
 use Rattle.xml.specs.Reading.{lines, Reference, lt, gt, apos, amp, quot, tab, line_feed, carriage_return, space, begins, CharData, text_end, text_raw, text_reference, value_byte, AttValue, value_end, value_raw, value_reference}
 use Rattle.xml.specs.Back.{barred, free, ReadsBack}
-use Rattle.xml.proofs.Nine.{nine_reference, of_all, inside}
+use Rattle.xml.specs.Levels.{of_all}
+use Rattle.xml.proofs.Nine.{nine_reference, inside}
 use Rattle.xml.proofs.Free.{raw_is_none, raw_is_not, free_escaped}
 
 -- without a carriage return, line ends are as they were

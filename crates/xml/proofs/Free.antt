@@ -4,7 +4,8 @@ use Rattle.std.proofs.lemmas.Bool.{and_from, and_parts, both_ways, not_from_fals
 use Rattle.xml.specs.declared.escape.Use.{Use}
 use Rattle.xml.specs.Escaping.{among, replacement, must, piece, escaped, Lawful}
 use Rattle.xml.specs.Back.{free}
-use Rattle.xml.proofs.Nine.{nines, all, of_all, inside}
+use Rattle.xml.specs.Levels.{all, of_all}
+use Rattle.xml.proofs.Nine.{nines, inside}
 
 free-++ : (bars cs bs : List ℕ) → free bars cs ≡ true → free bars bs ≡ true → free bars (cs ++ bs) ≡ true
 free-++ bars [] bs h k = k

@@ -4,7 +4,7 @@ ghost use Rattle.xml.specs.declared.escape.Use.{Use};
 ghost use Rattle.xml.specs.Escaping.{nine, asked, added, level_chooses, replacement, escaped, piece};
 ghost use Rattle.xml.specs.Back.{Writes, Escapes};
 ghost use Rattle.memory.specs.Laid.{laid};
-ghost use Rattle.std.proofs.Common.{rules};
+ghost use Rattle.xml.specs.Levels.{level_within, level_enough};
 
 use memory::lay;
 use refusal::Refusal;
@@ -50,9 +50,9 @@ pub trait EscapeRule {
 impl EscapeRule for QuoteLevel {
     ghost chooses = { level_chooses };
 
-    ghost within = { Prim.search rules };
+    ghost within = { level_within };
 
-    ghost enough = { Prim.search rules };
+    ghost enough = { level_enough };
 
     fn replaces(&self, target: Use, byte: u8) -> bool {
         asked_for(target, byte) | added_by(*self, byte)
