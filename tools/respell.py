@@ -5,7 +5,7 @@ usage: python3 tools/respell.py        once, at the top, after the kit's port.py
 
 Words are in snake case, types and facts in camel case. A dash stays where it joins a function to what it is taken of
 (`length-laid`) or to an operator (`led-++`). Names that Rattle makes of the code, as goals and steps, keep their
-dashes, and so does everything in code, strings and comments. Must-fail edits and the code words of pages follow.
+dashes, and so does everything in strings, characters and comments. Must-fail edits and the code words of pages follow.
 """
 
 import collections
@@ -17,10 +17,9 @@ import sys
 WORD = re.compile(r"[^\s(){}\[\],;.\"`|]+")
 DEFINES = re.compile(r"\s*(?:abbrev |unfoldable )*(?:pub )?(?:record |data )?([^\s(){}\[\]:.,;]+)(?: [^:]*)? : ")
 JOINED = re.compile(r"(?:length|take|drop)-\w+$|laid-laid$")
-LEADING = re.compile(r"(?:abbrev |unfoldable |pub |record |data )")
 # A fact that was in lower case: the file, and its words there.
 FACTS = [
-    ("crates/engine/specs/Lays.antt", re.compile(r"^(abbrev pub |pub wordy : |)wordy(?= : State| idle t| \(|  m| m w)"), r"\1Wordy"),
+    ("crates/engine/specs/Lays.antt", re.compile(r"^(abbrev pub |)wordy(?= : State| idle t| \()"), r"\1Wordy"),
     ("crates/engine/proofs/Settling.antt", re.compile(r"(Beyond, )wordy(?=\})"), r"\1Wordy"),
 ]
 
