@@ -1,6 +1,4 @@
 pub mod Appending
-pub mod Leads
-pub mod Inserting
 pub mod Fronts
 pub mod Settling
 pub mod Kids

@@ -1,14 +1,18 @@
 -- The writer's memory as lists and numbers, and what each small step does to it. Assumes nothing.
-use Rattle.std.specs.Prelude.{ℕ, ◌+◌, ◌-◌, ◌≤◌, Bool, List, length, Some, None, Option, slice_index_or, slice_range, slice_set}
+use Rattle.std.specs.Prelude.{◌≡◌, ℕ, ◌+◌, ◌-◌, ◌<◌, ◌≤◌, Bool, List, length, Some, None, Option, Ok, Err, Result, slice_index_or, slice_range, slice_set}
 use Rattle.style.specs.declared.indentation.Indentation.{Indentation}
 use Rattle.style.specs.declared.result.WriteResult.{WriteResult}
 use Rattle.style.specs.declared.style.EmptyElementHandling.{EmptyElementHandling}
+use Rattle.refusal.specs.declared.Refusal.{Refusal}
+use Rattle.refusal.specs.declared.Refusal.TheVariants.{Stage}
+use Rattle.memory.specs.declared.lent.Lent.{Lent}
 use Rattle.memory.specs.Laid.{laid}
 use Rattle.memory.specs.Opened.{opened}
 use Rattle.model.specs.declared.place.Place.{Place}
+use Rattle.model.specs.declared.place.Place.TheVariants.{Idle}
 use Rattle.model.specs.declared.frame.Frame.{Frame}
 use Rattle.engine.specs.Frames.{no_frame, settled_frame, longer_tag, next_place}
-use Rattle.engine.specs.declared.kernel.Core.{Core}
+use Rattle.engine.specs.declared.state.Core.{Core}
 
 -- one of the caller's slices, and how much of it is in use
 pub record Buf (A : Type 0) : Type 0 where
@@ -26,17 +30,20 @@ pub record Mem : Type 0 where
   pub form : EmptyElementHandling
   pub indentation : Option Indentation
 
--- the struct of the code, read so
+-- the structs of the code, read so
+abbrev pub buf : {A : Type 0} → Lent A → Buf A
+buf b = record { all = b.at.now; used = b.used }
+
 abbrev pub mem : Core → Mem
 mem w = record {
-  stage = record { all = w.stage.at.now; used = w.used };
-  names = record { all = w.names.at.now; used = w.named };
-  frames = record { all = w.frames.at.now; used = w.depth };
+  stage = buf w.stage;
+  names = buf w.names;
+  frames = buf w.frames;
   records = w.records;
   place = w.place;
   wordy = w.wordy;
-  form = w.form;
-  indentation = w.indentation;
+  form = w.style.empty_elements;
+  indentation = w.style.indentation;
 }
 
 -- src laid behind what is in use
@@ -120,6 +127,29 @@ settled_in f r w = record {
 -- the same in the innermost open thing
 abbrev pub settled : WriteResult → Mem → Mem
 settled r w = settled_in (top_frame w) r w
+
+-- nothing is in use any more
+abbrev pub emptied : Mem → Mem
+emptied w = record {
+  stage = record { all = w.stage.all; used = 0 };
+  names = record { all = w.names.all; used = 0 };
+  frames = record { all = w.frames.all; used = 0 };
+  records = 0;
+  place = Idle;
+  wordy = w.wordy;
+  form = w.form;
+  indentation = w.indentation;
+}
+
+-- the bytes are written behind what is in use, or they do not fit and nothing has changed
+abbrev pub Put : Result (Unit {0}) Refusal → List ℕ → Buf ℕ → Buf ℕ → Type 0
+Put (Ok x) bs b c = (b.used + length bs ≤ length b.all) × (c ≡ grown b bs)
+Put (Err e) bs b c = (e ≡ Stage) × (c ≡ b) × (length b.all < b.used + length bs)
+
+-- the same at the end of the open tag of the record whose frame stands at k
+abbrev pub PutInTag : Result (Unit {0}) Refusal → ℕ → List ℕ → Mem → Mem → Type 0
+PutInTag (Ok x) k bs w v = (w.stage.used + length bs ≤ length w.stage.all) × (v ≡ in_tag k bs w)
+PutInTag (Err e) k bs w v = (e ≡ Stage) × (v ≡ w) × (length w.stage.all < w.stage.used + length bs)
 
 -- how often the indent byte stands for each record around a tag
 abbrev pub indent_size : Option Indentation → ℕ

@@ -11,10 +11,8 @@ use xml::{XmlName, well_formed};
 pub fn check_bytes(bytes: &[u8]) -> Result<(), Refusal>
     ensures checked { CheckedBytes result bytes.now }
 {
-    match well_formed(bytes) {
-        Ok(_) => Ok(()),
-        Err(refusal) => Err(refusal),
-    }
+    well_formed(bytes)?;
+    Ok(())
 }
 
 /// Whether well-formed bytes are a name.
@@ -22,13 +20,8 @@ pub fn check_name(name: &[u8]) -> Result<(), Refusal>
     requires { utf8 name.now ≡ true }
     ensures checked { CheckedName result name.now }
 {
-    match well_formed(name) {
-        Ok(text) => match XmlName::try_from(text) {
-            Ok(_) => Ok(()),
-            Err(fault) => Err(fault),
-        },
-        Err(refusal) => Err(refusal),
-    }
+    XmlName::try_from(well_formed(name)?)?;
+    Ok(())
 }
 
 /// Whether this is the name `$text`, which stands for text.

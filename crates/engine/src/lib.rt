@@ -4,7 +4,8 @@
 mod checks;
 mod frames;
 mod kernel;
+mod state;
 
 pub use checks::{check_bytes, check_name, is_text_name, is_value_name};
-pub use frames::Frames;
-pub use kernel::Core;
+pub use kernel::{Lead, put};
+pub use state::Core;

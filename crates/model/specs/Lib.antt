@@ -16,3 +16,4 @@ pub mod Pairs
 pub mod Fields
 pub mod Laws
 pub mod Readings
+pub mod Frames

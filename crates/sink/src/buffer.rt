@@ -3,26 +3,24 @@ ghost use Rattle.std.specs.Prelude.{◌≡◌, ℕ, ◌-◌, ◌≤◌, List, []
 ghost use Rattle.sink.specs.Puts.{Puts, Keeps};
 
 use crate::sink::Sink;
-use memory::Bytes;
+use memory::Lent;
 use refusal::Refusal;
 
 /// Its size is the buffer's. What lies behind the bytes held keeps what it held.
 #[derive(Drop)]
 pub struct BufferSink<'a> {
-    buffer: Bytes<'a>,
-    len: usize,
-    ghost fits: { len ≤ length buffer.at.now },
+    buffer: Lent<'a, u8>,
+    ghost fits: { buffer.used ≤ length buffer.at.now },
 }
 
 impl<'a> BufferSink<'a> {
     pub fn new(buffer: &'a mut [u8]) -> BufferSink<'a>
-        ensures held { take result.len result.buffer.at.now ≡ [] }
-        ensures room { length result.buffer.at.now - result.len ≡ length buffer.old }
+        ensures held { take result.buffer.used result.buffer.at.now ≡ [] }
+        ensures room { length result.buffer.at.now - result.buffer.used ≡ length buffer.old }
         ensures memory { result.buffer.at.now ≡ buffer.old }
     {
         BufferSink {
-            buffer: Bytes::new(buffer),
-            len: 0,
+            buffer: Lent::new(buffer),
         }
     }
 }
@@ -30,30 +28,29 @@ impl<'a> BufferSink<'a> {
 impl BufferSink<'_> {
     /// What it holds.
     pub fn held(&self) -> &[u8]
-        ensures value { result.now ≡ take self.now.len self.now.buffer.at.now }
+        ensures value { result.now ≡ take self.now.buffer.used self.now.buffer.at.now }
     {
-        self.buffer.part(0, self.len)
+        self.buffer.part(0, self.buffer.used)
     }
 }
 
 impl Sink for BufferSink<'_> {
-    ghost held = { λ s. take s.len s.buffer.at.now };
+    ghost held = { λ s. take s.buffer.used s.buffer.at.now };
 
-    ghost room = { λ s. length s.buffer.at.now - s.len };
+    ghost room = { λ s. length s.buffer.at.now - s.buffer.used };
 
     fn counts(&self) -> (usize, usize) {
-        (self.len, self.buffer.len() - self.len)
+        (self.buffer.used, self.buffer.room())
     }
 
     fn put(&mut self, bytes: &[u8]) -> Result<(), Refusal>
-        ensures puts { Puts result bytes.now (take self.old.len self.old.buffer.at.now) (length self.old.buffer.at.now - self.old.len) (take self.new.len self.new.buffer.at.now) (length self.new.buffer.at.now - self.new.len) }
-        ensures memory { Keeps result bytes.now self.old.buffer.at.now self.old.len self.new.buffer.at.now }
+        ensures puts { Puts result bytes.now (take self.old.buffer.used self.old.buffer.at.now) (length self.old.buffer.at.now - self.old.buffer.used) (take self.new.buffer.used self.new.buffer.at.now) (length self.new.buffer.at.now - self.new.buffer.used) }
+        ensures memory { Keeps result bytes.now self.old.buffer.at.now self.old.buffer.used self.new.buffer.at.now }
     {
-        let len = self.len;
-        if self.buffer.len() - len < bytes.len() {
+        if self.buffer.room() < bytes.len() {
             return Err(Refusal::Sink);
         }
-        self.len = self.buffer.write(len, bytes);
+        self.buffer.append(&bytes);
         Ok(())
     }
 }

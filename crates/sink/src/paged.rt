@@ -55,11 +55,10 @@ impl Sink for PageSink {
         ensures puts { Puts result bytes.now (take self.old.len (flat self.old.pages.pages)) (4096 - self.old.len) (take self.new.len (flat self.new.pages.pages)) (4096 - self.new.len) }
         ensures memory { Keeps result bytes.now (flat self.old.pages.pages) self.old.len (flat self.new.pages.pages) }
     {
-        let len = self.len;
-        if SIZE - len < bytes.len() {
+        if SIZE - self.len < bytes.len() {
             return Err(Refusal::Sink);
         }
-        self.len = self.pages.write(len, bytes);
+        self.len = self.pages.write(self.len, bytes);
         Ok(())
     }
 }

@@ -37,7 +37,8 @@ impl Pages {
 
     /// Lays `src` over the bytes from `from` on, and answers where it ends.
     pub(crate) fn write(&mut self, from: usize, src: &[u8]) -> usize
-        requires { (from + length src.now ≤ 4096) × (length (flat self.old.pages) ≡ 4096) }
+        requires room { from + length src.now ≤ 4096 }
+        requires whole { length (flat self.old.pages) ≡ 4096 }
         ensures end { result ≡ from + length src.now }
         ensures bytes { flat self.new.pages ≡ laid (flat self.old.pages) from src.now }
         ensures front { take result (flat self.new.pages) ≡ take from (flat self.old.pages) ++ src.now }

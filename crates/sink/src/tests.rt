@@ -20,10 +20,9 @@ fn fill<S: Sink>(rt: &impl Abort, sink: &mut S, size: usize, bytes: &[u8]) {
 }
 
 fn refused(answer: Result<(), refusal::Refusal>) -> Option<(u8, usize)> {
-    match answer {
-        Ok(()) => None,
-        Err(refusal) => Some((refusal.number(), refusal.offset())),
-    }
+    answer
+        .err()
+        .map(|refusal| (refusal.number(), refusal.offset()))
 }
 
 #[test]

@@ -6,7 +6,7 @@ ghost use Rattle.xml.specs.Back.{Writes, Escapes};
 ghost use Rattle.memory.specs.Laid.{laid};
 ghost use Rattle.xml.specs.Levels.{level_within, level_enough};
 
-use memory::lay;
+use memory::{Piece, lay};
 use refusal::Refusal;
 
 /// What a string is written for.
@@ -100,14 +100,79 @@ fn replacement_of(byte: u8) -> &'static [u8]
     }
 }
 
-// How many bytes one byte takes.
-fn piece_len<R: EscapeRule>(byte: u8, rule: &R, target: Use) -> usize
-    ensures { result ≡ length (piece (R.chooses rule.now target) byte) }
-{
-    if rule.replaces(target, byte) {
-        replacement_of(byte).len()
-    } else {
-        1
+/// A string, and the rule that it is escaped by wherever it is written.
+#[derive_where(Clone, Copy)]
+pub struct Unescaped<'a, R> {
+    pub value: &'a [u8],
+    pub rule: &'a R,
+}
+
+impl<'a, R> Unescaped<'a, R> {
+    /// The same, written for a use.
+    pub fn escaped(self, target: Use) -> Escaped<'a, R>
+        ensures value { result.value.now ≡ self.entry.value.now }
+        ensures rule { result.rule.now ≡ self.entry.rule.now }
+        ensures target { result.target ≡ target }
+    {
+        Escaped {
+            value: self.value,
+            rule: self.rule,
+            target,
+        }
+    }
+}
+
+/// A value as it is written for a use: each byte replaced that the rule chooses.
+#[derive_where(Clone, Copy)]
+pub struct Escaped<'a, R> {
+    pub value: &'a [u8],
+    pub rule: &'a R,
+    pub target: Use,
+}
+
+impl<R: EscapeRule> Escaped<'_, R> {
+    // How many bytes a byte of it takes.
+    fn byte_len(&self, byte: u8) -> usize
+        ensures { result ≡ length (piece (R.chooses self.now.rule.now self.now.target) byte) }
+    {
+        if self.rule.replaces(self.target, byte) {
+            replacement_of(byte).len()
+        } else {
+            1
+        }
+    }
+
+    // Lays a byte of it, as it is or replaced.
+    fn lay_byte(&self, out: &mut [u8], at: usize, byte: u8) -> usize
+        requires { at + length (piece (R.chooses self.now.rule.now self.now.target) byte) ≤ length out.old }
+        ensures end { result ≡ at + length (piece (R.chooses self.now.rule.now self.now.target) byte) }
+        ensures bytes { out.new ≡ laid out.old at (piece (R.chooses self.now.rule.now self.now.target) byte) }
+    {
+        if self.rule.replaces(self.target, byte) {
+            lay(out, at, replacement_of(byte))
+        } else {
+            lay(out, at, &[byte])
+        }
+    }
+}
+
+impl<R: EscapeRule> Piece for Escaped<'_, R> {
+    ghost bytes = { λ e. escaped (R.chooses e.rule.now e.target) e.value.now };
+
+    fn size(&self) -> usize {
+        let mut len: usize = 0;
+        for byte in self.value {
+            len = len.saturating_add(self.byte_len(*byte));
+        }
+        len
+    }
+
+    fn lay(&self, out: &mut [u8], at: usize) -> usize {
+        let mut end = at;
+        for byte in self.value {
+            end = self.lay_byte(out, end, *byte);
+        }
+        end
     }
 }
 
@@ -115,24 +180,12 @@ fn piece_len<R: EscapeRule>(byte: u8, rule: &R, target: Use) -> usize
 pub fn escaped_len<R: EscapeRule>(value: &[u8], rule: &R, target: Use) -> usize
     ensures value { result ≡ min (length (escaped (R.chooses rule.now target) value.now)) (2 ^ 64 - 1) }
 {
-    let mut len: usize = 0;
-    for byte in value {
-        len = len.saturating_add(piece_len(*byte, rule, target));
-    }
-    len
-}
-
-// One byte, as it is or replaced.
-fn escape_byte<R: EscapeRule>(out: &mut [u8], at: usize, byte: u8, rule: &R, target: Use) -> usize
-    requires { at + length (piece (R.chooses rule.now target) byte) ≤ length out.old }
-    ensures end { result ≡ at + length (piece (R.chooses rule.now target) byte) }
-    ensures bytes { out.new ≡ laid out.old at (piece (R.chooses rule.now target) byte) }
-{
-    if rule.replaces(target, byte) {
-        lay(out, at, replacement_of(byte))
-    } else {
-        lay(out, at, &[byte])
-    }
+    let escaped = Escaped {
+        value,
+        rule,
+        target,
+    };
+    escaped.size()
 }
 
 // All bytes of a value, where there is room for them.
@@ -146,11 +199,12 @@ pub fn escape_all<R: EscapeRule>(
     requires { at + length (escaped (R.chooses rule.now target) value.now) ≤ length out.old }
     ensures { Writes target (R.chooses rule.now target) value.now at result out.old out.new }
 {
-    let mut end = at;
-    for byte in value {
-        end = escape_byte(out, end, *byte, rule, target);
-    }
-    end
+    let escaped = Escaped {
+        value,
+        rule,
+        target,
+    };
+    escaped.lay(out, at)
 }
 
 /// Writes a value for a use into `out` from `at` on, each byte that the rule chooses replaced, and answers where it ends.
