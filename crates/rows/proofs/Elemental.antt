@@ -1,5 +1,5 @@
 -- Values at the element place: an empty element, or a text between tags. Assumes nothing.
-use Rattle.std.proofs.Common.{◌≡◌, ℕ, suc, Bool, true, false, cond, List, [], ◌∷◌, length, Some, Err, Result, sym, refl, ap, ◌∙◌, arith}
+use Rattle.std.proofs.Common.{◌≡◌, ℕ, suc, Bool, true, false, cond, List, [], ◌∷◌, length, Some, Err, Result, sym, refl, ap, ◌∙◌, subst, arith}
 use Rattle.refusal.specs.declared.Refusal.{Refusal}
 use Rattle.refusal.specs.declared.Refusal.TheVariants.{Bytes as BytesAt}
 use Rattle.style.specs.declared.result.WriteResult.TheVariants.{Element as element_result}
@@ -43,8 +43,8 @@ module _ (c : Value) (room from : ℕ) (w v : Mem) (res : Result (Unit {0}) Refu
       (λ u n rs l ls z y. told_ill_formed w room (call_value c) (inside (element u n) rs l ls) e refl a is)
 
 -- what a rule chooses is all that counts of it
-pub escaped_by : (ρ : Rule) (chosen : Use → ℕ → Bool) (u : Use) (s : List ℕ) → ρ.chooses ≡ chosen → escaped (chosen u) s ≡ escaped (ρ.chooses u) s
-escaped_by ρ chosen u s e = ap (λ f. escaped (f u) s) (sym e)
+pub by_rule : (P : List ℕ → Type 0) (ρ : Rule) {chosen : Use → ℕ → Bool} (u : Use) (s : List ℕ) → ρ.chooses ≡ chosen → P (escaped (chosen u) s) → P (escaped (ρ.chooses u) s)
+by_rule P ρ u s e = subst (λ f. P (escaped (f u) s)) (sym e)
 
 -- no text, or some
 pub text_none : (ρ : Rule) (s : List ℕ) → length s ≡ 0 → (f : EmptyElementHandling) (d : ℕ) (rs : List Row) (b : Body) (u n : List ℕ) → put_element f d rs b u n (val_text ρ s) ≡ Some (empty_child f d rs b n)

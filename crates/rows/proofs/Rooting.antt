@@ -9,7 +9,8 @@ use Rattle.style.specs.declared.indentation.Indentation.{Indentation}
 use Rattle.style.specs.declared.style.EmptyElementHandling.{EmptyElementHandling}
 use Rattle.xml.specs.Names.{name_fault}
 use Rattle.style.specs.declared.result.WriteResult.TheVariants.{Element as element_result}
-use Rattle.model.specs.declared.place.Place.TheVariants.{Idle, Field}
+use Rattle.model.specs.declared.place.Place.{Place}
+use Rattle.model.specs.declared.place.Place.TheVariants.{Idle, Field, Element, Content, Text, Simple, Attribute, TextItem, AttributeItem, Complete}
 use Rattle.model.specs.declared.frame.Kind.TheVariants.{Record as record_kind}
 use Rattle.model.specs.declared.frame.Frame.{Frame}
 use Rattle.model.specs.Strings.{utf8, whole}
@@ -19,13 +20,13 @@ use Rattle.model.specs.Step.{new_level}
 use Rattle.model.specs.Layout.{stage, record_frame}
 use Rattle.model.specs.Grounds.{is_idle, sort, out_of_order}
 use Rattle.model.specs.Table.{verdict, next}
-use Rattle.engine.specs.Memory.{Mem, Safe, appended, name_put, pushed, placed, worded, counted}
+use Rattle.engine.specs.Memory.{Mem, Safe, emptied, appended, name_put, pushed, placed, worded, counted}
 use Rattle.engine.proofs.Appending.{appended-++}
 use Rattle.engine.specs.Lays.{Lays, Beyond, setting, Told, Does}
 use Rattle.engine.proofs.Fronts.{front_length, front_as, front_grown, front_push, past_cut, past_grown, past_set}
 use Rattle.engine.proofs.Spots.{on_idle}
 use Rattle.engine.proofs.Telling.{Clear, told_order, told_name, told_stack, told_depth, told_stage, told_ok, told_small, depth_is_free, sink_unasked}
-use Rattle.rows.specs.Roots.{emptied, root_frame, entered, Opens}
+use Rattle.rows.specs.Roots.{root_frame, entered, Opens}
 use Rattle.rows.proofs.Told.{well_formed_none, told_ill_formed}
 
 abandon_next : (f : EmptyElementHandling) (m : State) → next f call_abandon m ≡ idle
@@ -50,6 +51,21 @@ abandon_ok room w safe h m lay =
     (record { brought = refl; takes = refl; handed = refl }) safe lay.holds
     (subst (λ x. Lays x (emptied w)) (sym (abandon_next w.form m)) (lays_idle w))
     (record { stage = past_cut w.stage 0; names = past_cut w.names 0; frames = past_cut w.frames 0; form = refl; indentation = refl })
+
+not_idle : (p : Place) → (p ≡ Idle → ⊥) → is_idle (sort p) ≡ false
+not_idle Idle h = absurd (h refl)
+not_idle Field h = refl
+not_idle (Element n) h = refl
+not_idle (Content b) h = refl
+not_idle Text h = refl
+not_idle Simple h = refl
+not_idle Attribute h = refl
+not_idle (TextItem b) h = refl
+not_idle (AttributeItem b) h = refl
+not_idle Complete h = refl
+
+pub abandon_told : (room : ℕ) (w v : Mem) → Safe w → (w.place ≡ Idle → ⊥) → v ≡ emptied w → Does call_abandon room (Ok tt) w v
+abandon_told room w v safe h is = subst (λ x. Does call_abandon room (Ok tt) w x) (sym is) (abandon_ok room w safe (not_idle w.place h))
 
 pub abandon_refused : (room : ℕ) (w : Mem) → is_idle (sort w.place) ≡ true → Does call_abandon room (Err Order) w w
 abandon_refused room w h m lay = told_order w room call_abandon m (ap (λ p. not (not (is_idle (sort p)))) (sym lay.place) ∙ ap (λ b. not (not b)) h)

@@ -1,6 +1,6 @@
 -- Values at the content, text and simple places that write a text or nothing. Assumes nothing.
-use Rattle.std.proofs.Common.{◌≡◌, ℕ, suc, Bool, true, false, not, ◌&&◌, ◌||◌, eqb, List, [], ◌∷◌, length, Some, None, Ok, Err, Result, sym, refl, ap, subst, arith}
-use Rattle.std.proofs.lemmas.Bool.{not_from_true, and_right, ne_eqb}
+use Rattle.std.proofs.Common.{◌≡◌, ℕ, suc, Bool, true, false, not, ◌&&◌, ◌||◌, eqb, ◌⊎◌, List, [], ◌∷◌, length, Some, None, Ok, Err, Result, sym, refl, ap, subst, ⊎_elim, arith}
+use Rattle.std.proofs.lemmas.Bool.{eqb-true, not_from_true, and_right}
 use Rattle.std.proofs.lemmas.List.{append-nil}
 use Rattle.refusal.specs.declared.Refusal.{Refusal}
 use Rattle.refusal.specs.declared.Refusal.TheVariants.{Bytes as BytesAt, RunOn}
@@ -24,10 +24,11 @@ use Rattle.engine.proofs.Telling.{Clear, Small, told_run_on}
 use Rattle.rows.specs.Pieces.{Writes}
 use Rattle.rows.proofs.Told.{told_ill_formed, spot_told}
 
--- some bytes are not none
-pub some_bytes : (s : List ℕ) (t : Bool) → (not (eqb (length s) 0) || t) ≡ (not (null s) || t)
-some_bytes [] t = refl
-some_bytes (x ∷ s) t = ap (λ b. not b || t) (ne_eqb (length (x ∷ s)) 0 (λ e. absurd (omega (arith, e))))
+-- a text that is allowed, or empty
+pub may_stand : (s : List ℕ) (p : Bool) → (p || eqb (length s) 0) ≡ true → (not (null s) && not p) ≡ false
+may_stand [] p h = refl
+may_stand (x ∷ s) true h = refl
+may_stand (x ∷ s) false h = absurd (omega (arith, eqb-true (length (x ∷ s)) 0 h))
 
 -- a value that writes nothing and is complete
 pub spot_silent : (c : Value) (room : ℕ) (s : Spot) (rs : List Row) (l : Level) (ls : List Outer) (w v : Mem) (r : WriteResult) → spot_frames s ≡ [] → Clear (call_value c) (inside s rs l ls) → Small (call_value c) (inside s rs l ls) w → put w.form (suc (length ls)) rs (stack rs l) l.body s c ≡ Some (done r l.body) → Safe w → Lays (inside s rs l ls) w → v ≡ settled r w → Told (verdict (setting w) room (call_value c) (inside s rs l ls)) (Ok tt) w v
@@ -86,6 +87,14 @@ module _ (c : Value) (room : ℕ) (w v : Mem) (safe : Safe w) (fine : utf8 (valu
     simple_words res bs q h m lay =
         spots.on_simple (λ x. Told (verdict (setting w) room (call_value c) x) res w v) w m lay at
         (λ rs l ls y. spot_words c room simple rs l ls w v res bs refl (clear_simple c rs l ls fine shape) (record { brought = refl; takes = small; handed = refl }) (q l.body) safe y h)
+
+  -- at either place that takes only text
+  module _ (at : (w.place ≡ Text) ⊎ (w.place ≡ Simple)) (shape : no_text c ≡ false) where
+    pub only_silent : ((b : Body) → put_text b c ≡ Some (done SensitiveText b)) → ((b : Body) → put_simple b c ≡ Some (done SensitiveText b)) → v ≡ settled SensitiveText w → Does (call_value c) room (Ok tt) w v
+    only_silent p q is = ⊎_elim (λ t. text_silent t shape p is) (λ s. simple_silent s shape q is) at
+
+    pub only_words : (res : Result (Unit {0}) Refusal) (bs : List ℕ) → ((b : Body) → put_text b c ≡ Some (done SensitiveText (with_text b bs))) → ((b : Body) → put_simple b c ≡ Some (done SensitiveText (with_text b bs))) → Writes res bs SensitiveText (not (null bs) || w.wordy) w v → Does (call_value c) room res w v
+    only_words res bs p q h = ⊎_elim (λ t. text_words t shape res bs p h) (λ s. simple_words s shape res bs q h) at
 
 -- bytes that are not well-formed, at each of the three
 module _ (c : Value) (room : ℕ) (w : Mem) (e : Refusal) (bad : utf8 (value_string c) ≡ false) (is : e ≡ BytesAt (whole (value_string c))) where

@@ -3,23 +3,10 @@ use Rattle.std.specs.Prelude.{◌≡◌, ℕ, ◌+◌, ◌<◌, ◌≤◌, true,
 use Rattle.refusal.specs.declared.Refusal.{Refusal}
 use Rattle.refusal.specs.declared.Refusal.TheVariants.{Stack, Depth, Stage}
 use Rattle.style.specs.declared.result.WriteResult.TheVariants.{Element as element_result}
-use Rattle.model.specs.declared.place.Place.TheVariants.{Idle, Field}
+use Rattle.model.specs.declared.place.Place.TheVariants.{Field}
 use Rattle.model.specs.declared.frame.Frame.{Frame}
 use Rattle.model.specs.declared.frame.Kind.TheVariants.{Record as record_kind}
 use Rattle.engine.specs.Memory.{Mem, appended, name_put, pushed, placed, worded, counted}
-
--- nothing is in use any more
-abbrev pub emptied : Mem → Mem
-emptied w = record {
-  stage = record { all = w.stage.all; used = 0 };
-  names = record { all = w.names.all; used = 0 };
-  frames = record { all = w.frames.all; used = 0 };
-  records = 0;
-  place = Idle;
-  wordy = w.wordy;
-  form = w.form;
-  indentation = w.indentation;
-}
 
 -- the frame of a root record of this name
 abbrev pub root_frame : Mem → List ℕ → Frame

@@ -8,11 +8,14 @@ ghost use Rattle.engine.specs.Lays.{Does};
 use crate::elements::{write_empty, write_text};
 use engine::{Core, check_bytes, is_text_name};
 use refusal::Refusal;
-use xml::EscapeRule;
+use xml::{EscapeRule, Unescaped};
 
 /// None at the element place.
 pub fn none_at_element(core: &mut Core<'_>, from: usize) -> Result<(), Refusal>
-    requires { (Safe (mem core.old)) × ((0 < core.old.depth) × ((from ≤ core.old.named) × (core.old.place ≡ ElementPlace from))) }
+    requires safe { Safe (mem core.old) }
+    requires open { 0 < core.old.frames.used }
+    requires name { from ≤ core.old.names.used }
+    requires place { core.old.place ≡ ElementPlace from }
     ensures does { (room : ℕ) → Does (call_value val_none) room result (mem core.old) (mem core.new) }
 {
     write_empty(core, from)
@@ -22,21 +25,19 @@ pub fn none_at_element(core: &mut Core<'_>, from: usize) -> Result<(), Refusal>
 pub fn text_at_element<R: EscapeRule>(
     core: &mut Core<'_>,
     from: usize,
-    value: &[u8],
-    rule: &R,
+    text: Unescaped<'_, R>,
 ) -> Result<(), Refusal>
-    requires { (Safe (mem core.old)) × ((0 < core.old.depth) × ((from ≤ core.old.named) × (core.old.place ≡ ElementPlace from))) }
-    ensures does { (room : ℕ) (ρ : Rule) → ρ.chooses ≡ R.EscapeRule.chooses rule.now → Does (call_value (val_text ρ value.now)) room result (mem core.old) (mem core.new) }
+    requires safe { Safe (mem core.old) }
+    requires open { 0 < core.old.frames.used }
+    requires name { from ≤ core.old.names.used }
+    requires place { core.old.place ≡ ElementPlace from }
+    ensures does { (room : ℕ) (ρ : Rule) → ρ.chooses ≡ R.chooses text.entry.rule.now → Does (call_value (val_text ρ text.entry.value.now)) room result (mem core.old) (mem core.new) }
 {
-    match check_bytes(value) {
-        Err(refusal) => Err(refusal),
-        Ok(()) => {
-            if value.len() == 0 {
-                write_empty(core, from)
-            } else {
-                write_text(core, from, value, rule)
-            }
-        }
+    check_bytes(text.value)?;
+    if text.value.is_empty() {
+        write_empty(core, from)
+    } else {
+        write_text(core, from, text)
     }
 }
 
@@ -44,20 +45,18 @@ pub fn text_at_element<R: EscapeRule>(
 pub fn variant_at_element<R: EscapeRule>(
     core: &mut Core<'_>,
     from: usize,
-    value: &[u8],
-    rule: &R,
+    name: Unescaped<'_, R>,
 ) -> Result<(), Refusal>
-    requires { (Safe (mem core.old)) × ((0 < core.old.depth) × ((from ≤ core.old.named) × (core.old.place ≡ ElementPlace from))) }
-    ensures does { (room : ℕ) (ρ : Rule) → ρ.chooses ≡ R.EscapeRule.chooses rule.now → Does (call_value (val_variant ρ value.now)) room result (mem core.old) (mem core.new) }
+    requires safe { Safe (mem core.old) }
+    requires open { 0 < core.old.frames.used }
+    requires name { from ≤ core.old.names.used }
+    requires place { core.old.place ≡ ElementPlace from }
+    ensures does { (room : ℕ) (ρ : Rule) → ρ.chooses ≡ R.chooses name.entry.rule.now → Does (call_value (val_variant ρ name.entry.value.now)) room result (mem core.old) (mem core.new) }
 {
-    match check_bytes(value) {
-        Err(refusal) => Err(refusal),
-        Ok(()) => {
-            if is_text_name(value) {
-                write_empty(core, from)
-            } else {
-                write_text(core, from, value, rule)
-            }
-        }
+    check_bytes(name.value)?;
+    if is_text_name(name.value) {
+        write_empty(core, from)
+    } else {
+        write_text(core, from, name)
     }
 }

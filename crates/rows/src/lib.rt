@@ -7,9 +7,8 @@ mod roots;
 mod words;
 
 pub use element::{none_at_element, text_at_element, variant_at_element};
-pub use elements::{append_shut, append_start, shut_len, start_len};
+pub use elements::{Shut, lead, shut};
 pub use roots::{abandon, open};
 pub use words::{
-    none_at_content, none_at_simple, none_at_text, text_at_content, text_at_simple, text_at_text,
-    variant_at_simple, variant_at_text,
+    none_as_words, none_at_content, string_as_words, text_at_content, variant_at_text,
 };

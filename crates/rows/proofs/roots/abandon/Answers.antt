@@ -1,10 +1,10 @@
-use Rattle.std.proofs.Common.{sym, ◌∙◌}
+use Rattle.std.proofs.Common.{◌≡◌, rules}
+use Rattle.model.specs.declared.place.Place.TheVariants.{Idle}
 use Rattle.engine.specs.Memory.{mem}
-use Rattle.rows.proofs.Rooting.{abandon_ok, abandon_refused}
+use Rattle.rows.proofs.Rooting.{abandon_told}
 use Rattle.rows.proofs.roots.abandon.Goals as goal
 
-pub returns-then-at_idle : goal.returns-then-at_idle
-returns-then-at_idle c = record { does = λ room. abandon_refused room (mem c.args.core.now) (sym c.at_idle.ensures.value ∙ c.if-at_idle.true) }
-
 pub returns : goal.returns
-returns c = record { does = λ room. abandon_ok room (mem c.args.core.now) c.requires (sym c.at_idle.ensures.value ∙ c.if-at_idle.false) }
+returns c =
+    let busy : c.args.core.now.place ≡ Idle → ⊥ = search rules in
+    record { does = λ room. abandon_told room (mem c.args.core.now) (mem c.clear.new.self) c.requires busy c.clear.ensures.memory }

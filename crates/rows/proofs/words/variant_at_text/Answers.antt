@@ -1,44 +1,36 @@
-use Rattle.std.proofs.Common.{◌≡◌, cond, not, ◌||◌, [], Some, sym, refl, ap, ◌∙◌, subst, rules}
+use Rattle.std.proofs.Common.{cond, not, ◌||◌, [], Some, sym, refl, ap, ◌∙◌}
 use Rattle.style.specs.declared.result.WriteResult.TheVariants.{SensitiveText}
 use Rattle.xml.specs.declared.escape.Use.TheVariants.{Text as text_use}
 use Rattle.xml.specs.Escaping.{escaped}
-use Rattle.model.specs.declared.place.Place.TheVariants.{Text}
 use Rattle.model.specs.Strings.{null}
 use Rattle.model.specs.Calls.{val_variant}
 use Rattle.model.specs.Step.{done, with_text}
-use Rattle.engine.specs.Memory.{mem, Safe}
+use Rattle.engine.specs.Memory.{mem}
 use Rattle.rows.specs.Pieces.{Writes}
-use Rattle.rows.proofs.Elemental.{escaped_by}
+use Rattle.rows.proofs.Elemental.{by_rule}
 use Rattle.rows.proofs.Wording.{text_silent, text_words, no_words}
 use Rattle.rows.proofs.words.variant_at_text.Goals as goal
 
 pub returns-then-is_text_name : goal.returns-then-is_text_name
 returns-then-is_text_name g c =
-    let w = mem c.args.core.now in
-    let at : w.place ≡ Text = search rules in
-    let safe : Safe w = search rules in
-    let s = c.args.value.now in
-    let fine = c.in-Ok.ensures.checked in
+    let s = c.args.name.value.now in
     let is = sym c.is_text_name.ensures.value ∙ c.if-is_text_name.true in
     record {
       does = λ room ρ e.
-          text_silent (val_variant ρ s) room w (mem c.settle.new.self) safe fine refl at refl
+          text_silent (val_variant ρ s) room (mem c.args.core.now) (mem c.settle.new.self) c.requires.safe c.in_ok-check_bytes.ensures.checked refl c.requires.place refl
           (λ b. ap (λ t. Some (done SensitiveText (with_text b (cond t [] (escaped (ρ.chooses text_use) s))))) is ∙ ap (λ x. Some (done SensitiveText x)) (no_words b)) c.settle.ensures.memory;
     }
 
 pub returns-else-is_text_name : goal.returns-else-is_text_name
 returns-else-is_text_name g c =
     let w = mem c.args.core.now in
-    let at : w.place ≡ Text = search rules in
-    let safe : Safe w = search rules in
-    let s = c.args.value.now in
-    let fine = c.in-Ok.ensures.checked in
-    let chosen = g.R.EscapeRule.chooses c.args.rule.now in
+    let s = c.args.name.value.now in
     let v = mem c.write_words.new.core in
     let r = c.write_words.result in
     let is = sym c.is_text_name.ensures.value ∙ c.if-is_text_name.false in
     record {
       does = λ room ρ e.
-          text_words (val_variant ρ s) room w v safe fine refl at refl r (escaped (ρ.chooses text_use) s)
-          (λ b. ap (λ t. Some (done SensitiveText (with_text b (cond t [] (escaped (ρ.chooses text_use) s))))) is) (subst (λ x. Writes r x SensitiveText (not (null x) || w.wordy) w v) (escaped_by ρ chosen text_use s e) c.write_words.ensures.writes);
+          text_words (val_variant ρ s) room w v c.requires.safe c.in_ok-check_bytes.ensures.checked refl c.requires.place refl r (escaped (ρ.chooses text_use) s)
+          (λ b. ap (λ t. Some (done SensitiveText (with_text b (cond t [] (escaped (ρ.chooses text_use) s))))) is)
+          (by_rule (λ x. Writes r x SensitiveText (not (null x) || w.wordy) w v) ρ text_use s e c.write_words.ensures.writes);
     }
