@@ -22,6 +22,15 @@ impl<'a, T> Lent<'a, T> {
     {
         Lent { at, used: 0 }
     }
+
+    /// The same of no more than the first `most` of a slice.
+    pub fn first(at: &'a mut [T], most: usize) -> Lent<'a, T>
+        ensures all { result.at.now ≡ take most at.old }
+        ensures used { result.used ≡ 0 }
+    {
+        let len = at.len().min(most);
+        Lent::new(&mut at[..len])
+    }
 }
 
 impl<T: Copy> Lent<'_, T> {

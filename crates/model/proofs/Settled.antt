@@ -14,7 +14,7 @@ use Rattle.model.specs.Step.{Move, done, on, opens_row, opens_record, Quoted, cl
 use Rattle.model.specs.Table.{or_stay, next}
 use Rattle.model.specs.Run.{new, answers}
 use Rattle.model.specs.Documents.{accepted_calls, document, documents}
-use Rattle.model.specs.Lists.{Each}
+use Rattle.std.specs.List.{AllByRecursion}
 use Rattle.model.specs.Laws.{Settled, NoIndentAfterText}
 use Rattle.model.proofs.Moves.{Whenever}
 use Rattle.model.proofs.Documents.{sink_layout}
@@ -213,7 +213,7 @@ settled : {ms : List Mark} → Whole ms → Settled ms
 settled {ms} w = record { root = w.root; behind_a_tag = led_behind ms w.led; behind_no_text = led_no_text ms w.led }
 
 -- only a finish at a complete record gives a document
-with_document : (c : Call) (st : State) (ds : List (List Mark)) → GoodState st → Each Settled ds → Each Settled (document c st ++ ds)
+with_document : (c : Call) (st : State) (ds : List (List Mark)) → GoodState st → AllByRecursion Settled ds → AllByRecursion Settled (document c st ++ ds)
 with_document (call_open n) st ds g h = h
 with_document (call_field k) st ds g h = h
 with_document (call_value v) st ds g h = h
@@ -225,7 +225,7 @@ with_document call_finish (quote q l ls) ds g h = h
 with_document call_finish (complete ms) ds g h = (settled g, h)
 with_document call_abandon st ds g h = h
 
-all_settled : (f : EmptyElementHandling) (cs : List Call) (st : State) → GoodState st → Each Settled (documents f cs st)
+all_settled : (f : EmptyElementHandling) (cs : List Call) (st : State) → GoodState st → AllByRecursion Settled (documents f cs st)
 all_settled f [] st g = tt
 all_settled f (c ∷ cs) st g = with_document c st _ g (all_settled f cs (next f c st) (stays_good (step f c st) st g (good_step f c st g)))
 

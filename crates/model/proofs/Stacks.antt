@@ -5,7 +5,7 @@ use Rattle.style.specs.declared.result.WriteResult.TheVariants.{Element as eleme
 use Rattle.style.specs.declared.style.EmptyElementHandling.{EmptyElementHandling}
 use Rattle.reader.specs.Trees.{Bytes}
 use Rattle.model.specs.Strings.{null}
-use Rattle.model.specs.Lists.{Each}
+use Rattle.std.specs.List.{AllByRecursion}
 use Rattle.model.specs.Calls.{Value, val_text, val_none, val_variant, val_wrapped, val_row, val_variant_row, val_record, val_variant_record, Call, call_open, call_field, call_value, call_end, call_finish, call_abandon, Key, key_attribute, key_text, key_value, key_element, key, is_text_name}
 use Rattle.model.specs.Model.{Level, Row, named_row, content_row, Outer, Spot, element, content, text_spot, simple, words, Quote, single, several, State, idle, between, inside, quote, complete, stack, flag, spot_place}
 use Rattle.model.specs.Step.{Move, done, on, opens_row, opens_record, Quoted, closed, still, put, put_quote, settle, moved_if, requoted_if, close, leave, leave_quote, field, step, with_body}
@@ -23,7 +23,7 @@ module _ (P : Bytes → Type 0) where
   InLevel l = P (l.under ++ l.name)
 
   abbrev pub InOuter : Outer → Type 0
-  InOuter o = InLevel o.level × Each InRow o.rows
+  InOuter o = InLevel o.level × AllByRecursion InRow o.rows
 
   abbrev pub InSpot : Spot → Type 0
   InSpot (element u n) = P (u ++ n)
@@ -34,17 +34,17 @@ module _ (P : Bytes → Type 0) where
 
   abbrev pub InState : State → Type 0
   InState idle = Unit {0}
-  InState (between l ls) = InLevel l × Each InOuter ls
-  InState (inside s rs l ls) = InSpot s × Each InRow rs × InLevel l × Each InOuter ls
-  InState (quote q l ls) = InLevel l × Each InOuter ls
+  InState (between l ls) = InLevel l × AllByRecursion InOuter ls
+  InState (inside s rs l ls) = InSpot s × AllByRecursion InRow rs × InLevel l × AllByRecursion InOuter ls
+  InState (quote q l ls) = InLevel l × AllByRecursion InOuter ls
   InState (complete ms) = Unit {0}
 
-  pub in_stack : (rs : List Row) (l : Level) → Each InRow rs → InLevel l → P (stack rs l)
+  pub in_stack : (rs : List Row) (l : Level) → AllByRecursion InRow rs → InLevel l → P (stack rs l)
   in_stack [] l h k = k
   in_stack (named_row u n g ∷ rs) l h k = h.0
   in_stack (content_row t r g ∷ rs) l h k = h.0
 
-  in_spot_names : (s : Spot) (rs : List Row) (l : Level) → InSpot s → Each InRow rs → InLevel l → P (spot_names s rs l)
+  in_spot_names : (s : Spot) (rs : List Row) (l : Level) → InSpot s → AllByRecursion InRow rs → InLevel l → P (spot_names s rs l)
   in_spot_names (element u n) rs l p h k = p
   in_spot_names (content q) rs l p h k = in_stack rs l h k
   in_spot_names text_spot rs l p h k = in_stack rs l h k
@@ -118,12 +118,12 @@ module _ (P : Bytes → Type 0) where
   in_put f d rs l (words w) (val_record m) p h k = tt
   in_put f d rs l (words w) (val_variant_record v) p h k = tt
 
-  in_settle : (r : WriteResult) (rs : List Row) (l : Level) (ls : List Outer) → Each InRow rs → InLevel l → Each InOuter ls → InState (settle r rs l ls)
+  in_settle : (r : WriteResult) (rs : List Row) (l : Level) (ls : List Outer) → AllByRecursion InRow rs → InLevel l → AllByRecursion InOuter ls → InState (settle r rs l ls)
   in_settle r [] l ls h k o = (k, o)
   in_settle r (named_row u n g ∷ rs) l ls h k o = (h.0, h, k, o)
   in_settle r (content_row t q g ∷ rs) l ls h k o = (tt, h, k, o)
 
-  in_moved : (rs : List Row) (l : Level) (ls : List Outer) → Each InRow rs → InLevel l → Each InOuter ls → (o : Option Move) → Whenever InMove o → Whenever InState (moved_if rs l ls o)
+  in_moved : (rs : List Row) (l : Level) (ls : List Outer) → AllByRecursion InRow rs → InLevel l → AllByRecursion InOuter ls → (o : Option Move) → Whenever InMove o → Whenever InState (moved_if rs l ls o)
   in_moved rs l ls h k o None m = tt
   in_moved rs l ls h k o (Some (done r b)) m = in_settle r rs (with_body l b) ls h k o
   in_moved rs l ls h k o (Some (on z b)) m = (m, h, k, o)
@@ -131,16 +131,16 @@ module _ (P : Bytes → Type 0) where
   in_moved rs l ls h k o (Some (opens_row (content_row t q g))) m = (tt, (m, h), k, o)
   in_moved rs l ls h k o (Some (opens_record u n)) m = (m, ((k, h), o))
 
-  in_requoted : (l : Level) (ls : List Outer) → InLevel l → Each InOuter ls → (o : Option Quoted) → Whenever InState (requoted_if l ls o)
+  in_requoted : (l : Level) (ls : List Outer) → InLevel l → AllByRecursion InOuter ls → (o : Option Quoted) → Whenever InState (requoted_if l ls o)
   in_requoted l ls k o None = tt
   in_requoted l ls k o (Some (closed a)) = (k, o)
   in_requoted l ls k o (Some (still q)) = (k, o)
 
-  in_close : (f : EmptyElementHandling) (l : Level) (ls : List Outer) → Each InOuter ls → InState (close f l ls)
+  in_close : (f : EmptyElementHandling) (l : Level) (ls : List Outer) → AllByRecursion InOuter ls → InState (close f l ls)
   in_close f l [] o = tt
   in_close f l (p ∷ ls) o = in_settle element_result p.rows _ ls o.0.1 o.0.0 o.1
 
-  in_leave : (s : Spot) (rs : List Row) (l : Level) (ls : List Outer) → Each InRow rs → InLevel l → Each InOuter ls → Whenever InState (leave s rs l ls)
+  in_leave : (s : Spot) (rs : List Row) (l : Level) (ls : List Outer) → AllByRecursion InRow rs → InLevel l → AllByRecursion InOuter ls → Whenever InState (leave s rs l ls)
   in_leave (element u n) [] l ls h k o = tt
   in_leave (element u n) (named_row t m g ∷ rs) l ls h k o = in_settle element_result rs l ls h.1 k o
   in_leave (element u n) (content_row t r g ∷ rs) l ls h k o = tt
@@ -151,13 +151,13 @@ module _ (P : Bytes → Type 0) where
   in_leave simple rs l ls h k o = tt
   in_leave (words w) rs l ls h k o = in_settle SensitiveText rs l ls h k o
 
-  in_field : (q : Key) (l : Level) (ls : List Outer) → InLevel l → Each InOuter ls → P (stack [] l ++ key_name q) → InState (field q l ls)
+  in_field : (q : Key) (l : Level) (ls : List Outer) → InLevel l → AllByRecursion InOuter ls → P (stack [] l ++ key_name q) → InState (field q l ls)
   in_field (key_attribute k) l ls h o p = (h, o)
   in_field key_text l ls h o p = (tt, tt, h, o)
   in_field key_value l ls h o p = (tt, tt, h, o)
   in_field (key_element n) l ls h o p = (p, tt, h, o)
 
-  in_leave_quote : (q : Quote) (l : Level) (ls : List Outer) → InLevel l → Each InOuter ls → Whenever InState (leave_quote q l ls)
+  in_leave_quote : (q : Quote) (l : Level) (ls : List Outer) → InLevel l → AllByRecursion InOuter ls → Whenever InState (leave_quote q l ls)
   in_leave_quote (single k) l ls h o = tt
   in_leave_quote (several k v w) l ls h o = (h, o)
 

@@ -19,7 +19,7 @@ use Rattle.model.specs.Run.{Session, new, writer, run, answer, answers, after, a
 use Rattle.model.specs.Fields.{Field, calls, names_attribute}
 use Rattle.model.specs.Documents.{accepted_calls, documents, layouts}
 use Rattle.model.specs.Says.{trees}
-use Rattle.model.specs.Lists.{Each}
+use Rattle.std.specs.List.{AllByRecursion}
 
 -- what an empty sink of this room holds after these calls on a new writer
 abbrev pub sink_after : Setting → List Call → ℕ → Bytes
@@ -36,7 +36,7 @@ StringsToldApart = (bs : Bytes) → Decides (utf8 bs) (IsUtf8 bs) × (utf8 bs �
 
 -- no row of a table applies
 abbrev pub NoneApplies : List (Option Refusal) → Type 0
-NoneApplies rows = Each (λ r. r ≡ None) rows
+NoneApplies rows = AllByRecursion (λ r. r ≡ None) rows
 
 -- the refusal e is that of its own row, the row of its number, and no earlier row applies
 pub record FirstToApply (rows : List (Option Refusal)) (e : Refusal) : Type 0 where
@@ -118,7 +118,7 @@ pub record Settled (ms : List Mark) : Type 0 where
 -- No indent after text: whatever a sink holds is the layout of such records, those that the accepted calls alone write
 abbrev pub NoIndentAfterText : Type 0
 NoIndentAfterText =
-    (w : Setting) (cs : List Call) (r : ℕ) → (sink_after w cs r ≡ layouts w.indentation (documents w.form (accepted_calls cs (answers_to w cs r)) idle)) × Each Settled (documents w.form (accepted_calls cs (answers_to w cs r)) idle)
+    (w : Setting) (cs : List Call) (r : ℕ) → (sink_after w cs r ≡ layouts w.indentation (documents w.form (accepted_calls cs (answers_to w cs r)) idle)) × AllByRecursion Settled (documents w.form (accepted_calls cs (answers_to w cs r)) idle)
 
 -- the bytes have this reading, and no other
 pub record ReadsExactly (bs : Bytes) (ts : List Tree) : Type 0 where

@@ -1,4 +1,3 @@
-pub mod Lists
 pub mod Strings
 pub mod Calls
 pub mod Rules

@@ -5,7 +5,7 @@ use Rattle.refusal.specs.declared.Refusal.{Refusal}
 use Rattle.refusal.specs.declared.Refusal.TheVariants.{Order, Bytes as BytesAt, Shape, RunOn, Name as NameAt, Stack, Depth, Stage, Sink}
 use Rattle.style.specs.declared.style.EmptyElementHandling.TheVariants.{SelfClosed}
 use Rattle.style.specs.Indents.{allowed}
-use Rattle.model.specs.Lists.{Each}
+use Rattle.std.specs.List.{AllByRecursion}
 use Rattle.model.specs.Calls.{val_wrapped, Call, call_open, call_field, call_value, call_end, call_finish, Answer, accepted, refused}
 use Rattle.model.specs.Table.{Memory}
 use Rattle.model.specs.Run.{new, writer, answers}
@@ -119,4 +119,4 @@ StageUsed =
 
 -- each of the ten refusals is met, and is not met where its ground is removed
 abbrev pub MetAndNotMet : Type 0
-MetAndNotMet = Each Holds pairs × StylesPair × FramesUsed × NamesUsed × StageUsed
+MetAndNotMet = AllByRecursion Holds pairs × StylesPair × FramesUsed × NamesUsed × StageUsed

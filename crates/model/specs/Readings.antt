@@ -7,7 +7,7 @@ use Rattle.style.specs.declared.style.EmptyElementHandling.{EmptyElementHandling
 use Rattle.style.specs.declared.style.EmptyElementHandling.TheVariants.{SelfClosed, SelfClosedWithSpace, Expanded}
 use Rattle.xml.specs.declared.escape.QuoteLevel.TheVariants.{Partial}
 use Rattle.reader.specs.Trees.{Bytes}
-use Rattle.model.specs.Lists.{Each}
+use Rattle.std.specs.List.{AllByRecursion}
 use Rattle.model.specs.Calls.{val_variant, val_wrapped, val_variant_row, val_record, val_variant_record, Call, call_open, call_field, call_value, call_end, call_finish, Answer, accepted, refused}
 use Rattle.model.specs.Rules.{level_rule}
 use Rattle.model.specs.Table.{Memory}
@@ -149,4 +149,4 @@ OrdersTaken =
 
 -- every small run comes out so
 abbrev pub Readings : Type 0
-Readings = Each IsSo run_ons × Each IsSo named × Each IsSo values × Each IsSo orders × Each IsSo indents × Each IsSo stacks × OrdersTaken
+Readings = AllByRecursion IsSo run_ons × AllByRecursion IsSo named × AllByRecursion IsSo values × AllByRecursion IsSo orders × AllByRecursion IsSo indents × AllByRecursion IsSo stacks × OrdersTaken

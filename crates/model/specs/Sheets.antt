@@ -5,7 +5,7 @@ use Rattle.style.specs.declared.indentation.Indentation.{Indentation}
 use Rattle.style.specs.declared.style.EmptyElementHandling.TheVariants.{SelfClosed}
 use Rattle.xml.specs.declared.escape.QuoteLevel.TheVariants.{Partial}
 use Rattle.reader.specs.Trees.{Bytes}
-use Rattle.model.specs.Lists.{Each}
+use Rattle.std.specs.List.{AllByRecursion}
 use Rattle.model.specs.Calls.{val_text, val_none, val_row, Call, call_open, call_field, call_value, call_end, call_finish, Answer, accepted, refused}
 use Rattle.model.specs.Rules.{level_rule}
 use Rattle.model.specs.Table.{Memory}
@@ -105,4 +105,4 @@ ComesTrue i cs t =
 
 -- every trial of each of the ten sheets comes true
 abbrev pub TenSheets : Type 0
-TenSheets = Each (λ s. Each (ComesTrue s.indentation s.calls) s.trials) ten_sheets
+TenSheets = AllByRecursion (λ s. AllByRecursion (ComesTrue s.indentation s.calls) s.trials) ten_sheets

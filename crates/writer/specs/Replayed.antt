@@ -11,7 +11,7 @@ use Rattle.model.specs.Run.{run, answers, writer}
 use Rattle.model.specs.Fields.{Field, calls, names_attribute}
 use Rattle.model.specs.Documents.{accepted_calls, documents, layouts}
 use Rattle.model.specs.Says.{trees}
-use Rattle.model.specs.Lists.{Each}
+use Rattle.std.specs.List.{AllByRecursion}
 use Rattle.model.specs.Laws.{sink_after, answers_to, Agree, Settled, ReadsExactly, BothOrders}
 use Rattle.engine.specs.Memory.{Mem}
 use Rattle.engine.specs.Lays.{Lays, setting}
@@ -38,7 +38,7 @@ pub record Alike (i j : Option Indentation) (bs cs : Bytes) (records : List (Lis
   pub one : bs ≡ layouts i records
   pub other : cs ≡ layouts j records
   pub before_a_tag : (h : Option Indentation) (d : ℕ) → bytes_of_mark h (lead d) ≡ indent h d ++ bytes_of_mark h (tag_byte 60)
-  pub behind_a_tag : Each Settled records
+  pub behind_a_tag : AllByRecursion Settled records
 
 -- the calls cs were run on a writer and a sink: memory w and v before and after, what the sink held and its room before (bs and k)
 -- and after (bs' and k'), and the answers

@@ -10,5 +10,5 @@ mod writer;
 pub use call::Call;
 pub use places::Value;
 pub use replay::Answer;
-pub use ticket::{Held, Ticket};
+pub use ticket::Ticket;
 pub use writer::Writer;

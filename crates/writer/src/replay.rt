@@ -9,7 +9,7 @@ ghost use Rattle.writer.specs.Served.{Serves, all_answered};
 ghost use Rattle.writer.specs.Replayed.{Ran, Replayed};
 
 use crate::call::Call;
-use crate::ticket::Held;
+use crate::ticket::{Ticket, spend};
 use crate::writer::Writer;
 use refusal::Refusal;
 use sink::Sink;
@@ -20,30 +20,31 @@ use xml::EscapeRule;
 pub type Answer = Result<(), Refusal>;
 
 // After an accepted finish or abandon the ticket has done its work.
-fn spent_on(answer: Answer, held: Held) -> (Answer, Held)
+fn spent_on(answer: Answer, held: Option<Ticket>) -> (Answer, Option<Ticket>)
     ensures answer { result.0 ≡ answer }
 {
-    match answer {
-        Ok(()) => {
-            held.spend();
-            (Ok(()), Held::Nothing)
-        }
-        Err(refusal) => (Err(refusal), held),
+    if answer.is_err() {
+        return (answer, held);
     }
+    spend(held);
+    (answer, None)
 }
 
 // One call.
 fn serve<R: EscapeRule, S: Sink>(
     writer: &mut Writer<'_>,
     sink: &mut S,
-    held: Held,
+    held: Option<Ticket>,
     call: &Call<'_, R>,
-) -> (Answer, Held)
-    ensures serves { (c : meant.Call) → CallIs R.EscapeRule.chooses call.now c → Serves c result.0 (mem writer.old.core) (mem writer.new.core) (S.Sink.held sink.old) (S.Sink.room sink.old) (S.Sink.held sink.new) (S.Sink.room sink.new) }
+) -> (Answer, Option<Ticket>)
+    ensures serves { (c : meant.Call) → CallIs R.chooses call.now c → Serves c result.0 (mem writer.old.core) (mem writer.new.core) (S.held sink.old) (S.room sink.old) (S.held sink.new) (S.room sink.new) }
 {
     match call {
         Call::Open(name) => match writer.open(name) {
-            Ok(ticket) => (Ok(()), held.renewed(ticket)),
+            Ok(ticket) => {
+                spend(held);
+                (Ok(()), Some(ticket))
+            }
             Err(refusal) => (Err(refusal), held),
         },
         Call::Field(key) => (writer.field(key), held),
@@ -58,12 +59,12 @@ fn serve<R: EscapeRule, S: Sink>(
 fn serve_all<R: EscapeRule, S: Sink>(
     writer: &mut Writer<'_>,
     sink: &mut S,
-    held: Held,
+    held: Option<Ticket>,
     calls: &[Call<'_, R>],
     answers: &mut [Answer],
-) -> Held
+) -> Option<Ticket>
     requires { length answers.old ≡ length calls.now }
-    ensures ran { (cs : List meant.Call) → CallsAre R.EscapeRule.chooses calls.now cs → (m : State) → Lays m (mem writer.old.core) → Ran cs (mem writer.old.core) (mem writer.new.core) (S.Sink.held sink.old) (S.Sink.room sink.old) (S.Sink.held sink.new) (S.Sink.room sink.new) (all_answered answers.new) m }
+    ensures ran { (cs : List meant.Call) → CallsAre R.chooses calls.now cs → (m : State) → Lays m (mem writer.old.core) → Ran cs (mem writer.old.core) (mem writer.new.core) (S.held sink.old) (S.room sink.old) (S.held sink.new) (S.room sink.new) (all_answered answers.new) m }
 {
     let mut held = held;
     for (i, call) in calls.iter().enumerate() {
@@ -85,12 +86,12 @@ impl Writer<'_> {
     pub fn replay<R: EscapeRule, S: Sink>(
         &mut self,
         heap: Global,
-        held: Held,
+        held: Option<Ticket>,
         sink: &mut S,
         calls: &[Call<'_, R>],
-    ) -> Result<(Vec<Answer>, Held), Held>
-        ensures meant { (cs : List meant.Call) × CallsAre R.EscapeRule.chooses calls.now cs }
-        ensures replayed { MatchResult result (λ x. (cs : List meant.Call) → CallsAre R.EscapeRule.chooses calls.now cs → Replayed cs (mem self.old.core) (mem self.new.core) (S.Sink.held sink.old) (S.Sink.room sink.old) (S.Sink.held sink.new) (S.Sink.room sink.new) (all_answered x.0.items)) (λ _. (mem self.new.core ≡ mem self.old.core) × (sink.new ≡ sink.old)) }
+    ) -> Result<(Vec<Answer>, Option<Ticket>), Option<Ticket>>
+        ensures meant { (cs : List meant.Call) × CallsAre R.chooses calls.now cs }
+        ensures replayed { MatchResult result (λ x. (cs : List meant.Call) → CallsAre R.chooses calls.now cs → Replayed cs (mem self.old.core) (mem self.new.core) (S.held sink.old) (S.room sink.old) (S.held sink.new) (S.room sink.new) (all_answered x.0.items)) (λ _. (mem self.new.core ≡ mem self.old.core) × (sink.new ≡ sink.old)) }
     {
         match vec![in heap; Ok(()); calls.len()] {
             Err(_) => Err(held),

@@ -1,11 +1,11 @@
 // The writer and what is always true of it.
 ghost use Rattle.std.specs.Prelude.{◌≡◌, ◌≤◌, length, take};
-ghost use Rattle.engine.specs.Memory.{mem, indent_size};
+ghost use Rattle.engine.specs.Memory.{mem};
 ghost use Rattle.places.specs.Sound.{Sound};
 ghost use Rattle.writer.specs.Starting.{starting};
 
-use engine::{Core, Frames};
-use memory::Bytes;
+use engine::Core;
+use memory::Lent;
 use model::{Frame, Place};
 use style::Style;
 
@@ -27,7 +27,6 @@ pub struct Writer<'a> {
     ghost stage: { length core.stage.at.now ≤ 65536 },
     ghost names: { length core.names.at.now ≤ 4096 },
     ghost frames: { length core.frames.at.now ≤ 64 },
-    ghost indent: { indent_size core.indentation ≤ 16 },
 }
 
 impl<'a> Writer<'a> {
@@ -41,22 +40,15 @@ impl<'a> Writer<'a> {
     ) -> Writer<'a>
         ensures memory { mem result.core ≡ starting style.empty_elements style.indentation (take 65536 stage.old) (take 4096 names.old) (take 64 frames.old) }
     {
-        let stage_len = stage.len().min(STAGE);
-        let names_len = names.len().min(NAMES);
-        let frames_len = frames.len().min(FRAMES);
         Writer {
             core: Core {
-                stage: Bytes::new(&mut stage[..stage_len]),
-                names: Bytes::new(&mut names[..names_len]),
-                frames: Frames::new(&mut frames[..frames_len]),
-                used: 0,
-                named: 0,
-                depth: 0,
+                stage: Lent::first(stage, STAGE),
+                names: Lent::first(names, NAMES),
+                frames: Lent::first(frames, FRAMES),
                 records: 0,
                 place: Place::Idle,
                 wordy: false,
-                form: style.empty_elements(),
-                indentation: style.indentation(),
+                style,
             },
         }
     }

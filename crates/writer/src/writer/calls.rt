@@ -18,20 +18,6 @@ use refusal::Refusal;
 use sink::Sink;
 use xml::{EscapeRule, QuoteLevel};
 
-// The missing value.
-fn nothing<'a>() -> Value<'a, QuoteLevel>
-    ensures value { result ≡ Value.Nothing }
-{
-    Value::Nothing
-}
-
-// A row.
-fn row<'a>() -> Value<'a, QuoteLevel>
-    ensures value { result ≡ Value.Row }
-{
-    Value::Row
-}
-
 impl Writer<'_> {
     // A value that brings no rule.
     fn plain(&mut self, value: Value<'_, QuoteLevel>) -> Result<(), Refusal>
@@ -56,7 +42,7 @@ impl Writer<'_> {
 
     // Hands the record to the sink.
     pub(crate) fn send_record<S: Sink>(&mut self, sink: &mut S) -> Result<(), Refusal>
-        ensures serves { Serves call_finish result (mem self.old.core) (mem self.new.core) (S.Sink.held sink.old) (S.Sink.room sink.old) (S.Sink.held sink.new) (S.Sink.room sink.new) }
+        ensures serves { Serves call_finish result (mem self.old.core) (mem self.new.core) (S.held sink.old) (S.room sink.old) (S.held sink.new) (S.room sink.new) }
     {
         send(&mut self.core, sink)
     }
@@ -65,10 +51,8 @@ impl Writer<'_> {
     pub fn open(&mut self, name: &[u8]) -> Result<Ticket, Refusal>
         ensures does { (room : ℕ) → Does (call_open name.now) room (unit_of result) (mem self.old.core) (mem self.new.core) }
     {
-        match self.begin_record(name) {
-            Ok(()) => Ok(Ticket::new()),
-            Err(refusal) => Err(refusal),
-        }
+        self.begin_record(name)?;
+        Ok(Ticket::new())
     }
 
     /// Begins a field: `@KEY` is an attribute, `$text` the text, `$value` a value among the children, and any other key
@@ -81,7 +65,7 @@ impl Writer<'_> {
 
     /// Gives a value of any kind.
     pub fn value<R: EscapeRule>(&mut self, value: &Value<'_, R>) -> Result<(), Refusal>
-        ensures does { (room : ℕ) (v : meant.Value) → ValueIs R.EscapeRule.chooses value.now v → Does (call_value v) room result (mem self.old.core) (mem self.new.core) }
+        ensures does { (room : ℕ) (v : meant.Value) → ValueIs R.chooses value.now v → Does (call_value v) room result (mem self.old.core) (mem self.new.core) }
     {
         take_value(&mut self.core, value)
     }
@@ -95,33 +79,21 @@ impl Writer<'_> {
 
     /// Hands the complete record to the sink, whole, and leaves the writer idle. A refusal gives the ticket back.
     pub fn finish<S: Sink>(&mut self, ticket: Ticket, sink: &mut S) -> Result<(), (Refusal, Ticket)>
-        ensures serves { Serves call_finish (refusal_of result) (mem self.old.core) (mem self.new.core) (S.Sink.held sink.old) (S.Sink.room sink.old) (S.Sink.held sink.new) (S.Sink.room sink.new) }
+        ensures serves { Serves call_finish (refusal_of result) (mem self.old.core) (mem self.new.core) (S.held sink.old) (S.room sink.old) (S.held sink.new) (S.room sink.new) }
     {
-        match self.send_record(sink) {
-            Ok(()) => {
-                ticket.spend();
-                Ok(())
-            }
-            Err(refusal) => Err((refusal, ticket)),
-        }
+        ticket.spent_on(self.send_record(sink))
     }
 
     /// Drops the record, wherever it stands, and leaves the writer idle. A refusal gives the ticket back.
     pub fn abandon(&mut self, ticket: Ticket) -> Result<(), (Refusal, Ticket)>
         ensures does { (room : ℕ) → Does call_abandon room (refusal_of result) (mem self.old.core) (mem self.new.core) }
     {
-        match self.drop_record() {
-            Ok(()) => {
-                ticket.spend();
-                Ok(())
-            }
-            Err(refusal) => Err((refusal, ticket)),
-        }
+        ticket.spent_on(self.drop_record())
     }
 
     /// Gives a text, escaped by this rule.
     pub fn text<R: EscapeRule + Drop>(&mut self, text: &[u8], rule: R) -> Result<(), Refusal>
-        ensures does { (room : ℕ) (ρ : Rule) → ρ.chooses ≡ R.EscapeRule.chooses rule → Does (call_value (val_text ρ text.now)) room result (mem self.old.core) (mem self.new.core) }
+        ensures does { (room : ℕ) (ρ : Rule) → ρ.chooses ≡ R.chooses rule → Does (call_value (val_text ρ text.now)) room result (mem self.old.core) (mem self.new.core) }
     {
         self.value(&Value::Text(text, rule))
     }
@@ -130,12 +102,12 @@ impl Writer<'_> {
     pub fn none(&mut self) -> Result<(), Refusal>
         ensures does { (room : ℕ) → Does (call_value val_none) room result (mem self.old.core) (mem self.new.core) }
     {
-        self.plain(nothing())
+        self.plain(Value::Nothing)
     }
 
     /// Gives a variant without content, by its name; where that is written as a text, it is escaped by this rule.
     pub fn variant<R: EscapeRule + Drop>(&mut self, name: &[u8], rule: R) -> Result<(), Refusal>
-        ensures does { (room : ℕ) (ρ : Rule) → ρ.chooses ≡ R.EscapeRule.chooses rule → Does (call_value (val_variant ρ name.now)) room result (mem self.old.core) (mem self.new.core) }
+        ensures does { (room : ℕ) (ρ : Rule) → ρ.chooses ≡ R.chooses rule → Does (call_value (val_variant ρ name.now)) room result (mem self.old.core) (mem self.new.core) }
     {
         self.value(&Value::Variant(name, rule))
     }
@@ -151,7 +123,7 @@ impl Writer<'_> {
     pub fn row(&mut self) -> Result<(), Refusal>
         ensures does { (room : ℕ) → Does (call_value val_row) room result (mem self.old.core) (mem self.new.core) }
     {
-        self.plain(row())
+        self.plain(Value::Row)
     }
 
     /// Begins a variant that is a row, up to its end.
