@@ -15,7 +15,7 @@ use Rattle.engine.proofs.Values.{open_inside}
 use Rattle.fields.proofs.Standing.{field_deep, field_tag}
 use Rattle.attributes.proofs.Standing.{attribute_open, attribute_tag, attribute_item_open, attribute_item_tag}
 use Rattle.records.proofs.Standing.{content_open, element_open, element_named}
-use Rattle.closing.proofs.Standing.{field_open, field_records, field_name}
+use Rattle.closing.proofs.Standing.{field_records, field_name}
 use Rattle.places.specs.Sound.{Sound, Sizes}
 
 -- an order between numbers that holds whatever model the memory holds
@@ -59,38 +59,45 @@ words_open t rs l ls w h =
     omega (arith, front_length w.frames (frames i (inside (words t) rs l ls)) h.frames, length-append (outer_frames i ls) (f ∷ (row_frames rs ++ (list_frame ∷ []))), length-append (row_frames rs) (list_frame ∷ []))
 
 -- what the rows of each place rely on
-module _ (w : Mem) (safe : Safe w) (s : Sound w) where
-  pub field_ready : w.place ≡ Field → Safe w × ((0 < w.frames.used) × (((top_frame w).tag ≤ w.stage.used) × (w.place ≡ Field)))
-  field_ready e = (safe, (always w 1 w.frames.used s (λ m lay. field_deep m w lay e), (always w (top_frame w).tag w.stage.used s (λ m lay. field_tag m w lay e), e)))
+module _ (w : Mem) (s : Sound w) where
+  pub field_is_open : w.place ≡ Field → 0 < w.frames.used
+  field_is_open e = always w 1 w.frames.used s (λ m lay. field_deep m w lay e)
 
-  pub end_ready : w.place ≡ Field → Safe w × ((w.place ≡ Field) × ((0 < w.frames.used) × ((0 < w.records) × ((top_frame w).from ≤ w.names.used))))
-  end_ready e =
-      (safe, (e, (always w 1 w.frames.used s (λ m lay. field_open m w lay e), (always w 1 w.records s (λ m lay. field_records m w lay e), always w (top_frame w).from w.names.used s (λ m lay. field_name m w lay e)))))
+  pub field_tag_within : w.place ≡ Field → (top_frame w).tag ≤ w.stage.used
+  field_tag_within e = always w (top_frame w).tag w.stage.used s (λ m lay. field_tag m w lay e)
 
-  element_deep : (from : ℕ) → w.place ≡ Element from → 0 < w.frames.used
-  element_deep from e = always w 1 w.frames.used s (λ m lay. element_open m w from lay e)
+  pub field_in_record : w.place ≡ Field → 0 < w.records
+  field_in_record e = always w 1 w.records s (λ m lay. field_records m w lay e)
 
-  pub element_ready : (from : ℕ) → w.place ≡ Element from → Safe w × ((0 < w.frames.used) × ((from ≤ w.names.used) × (w.place ≡ Element from)))
-  element_ready from e = (safe, (element_deep from e, (always w from w.names.used s (λ m lay. element_named m w from lay e), e)))
+  pub field_name_within : w.place ≡ Field → (top_frame w).from ≤ w.names.used
+  field_name_within e = always w (top_frame w).from w.names.used s (λ m lay. field_name m w lay e)
 
-  pub element_row_ready : (from : ℕ) → w.place ≡ Element from → Safe w × ((0 < w.frames.used) × (w.place ≡ Element from))
-  element_row_ready from e = (safe, (element_deep from e, e))
+  pub element_is_open : (from : ℕ) → w.place ≡ Element from → 0 < w.frames.used
+  element_is_open from e = always w 1 w.frames.used s (λ m lay. element_open m w from lay e)
 
-  pub content_ready : (p : Bool) → w.place ≡ Content p → Safe w × ((0 < w.frames.used) × (w.place ≡ Content p))
-  content_ready p e = (safe, (always w 1 w.frames.used s (λ m lay. content_open m w p lay e), e))
+  pub element_name_within : (from : ℕ) → w.place ≡ Element from → from ≤ w.names.used
+  element_name_within from e = always w from w.names.used s (λ m lay. element_named m w from lay e)
 
-  pub text_ready : w.place ≡ Text → Safe w × ((0 < w.frames.used) × (w.place ≡ Text))
-  text_ready e = (safe, (always w 1 w.frames.used s (λ m lay. on_text (λ x. 0 < w.frames.used) w m lay e (λ rs l ls y. open_inside text_spot rs l ls w y.holds)), e))
+  pub content_is_open : (p : Bool) → w.place ≡ Content p → 0 < w.frames.used
+  content_is_open p e = always w 1 w.frames.used s (λ m lay. content_open m w p lay e)
 
-  pub simple_ready : w.place ≡ Simple → Safe w × ((0 < w.frames.used) × (w.place ≡ Simple))
-  simple_ready e = (safe, (always w 1 w.frames.used s (λ m lay. on_simple (λ x. 0 < w.frames.used) w m lay e (λ rs l ls y. open_inside simple rs l ls w y.holds)), e))
+  pub text_is_open : w.place ≡ Text → 0 < w.frames.used
+  text_is_open e = always w 1 w.frames.used s (λ m lay. on_text (λ x. 0 < w.frames.used) w m lay e (λ rs l ls y. open_inside text_spot rs l ls w y.holds))
 
-  pub attribute_ready : w.place ≡ Attribute → Safe w × ((0 < w.frames.used) × (((top_frame w).tag ≤ w.stage.used) × (w.place ≡ Attribute)))
-  attribute_ready e = (safe, (always w 1 w.frames.used s (λ m lay. attribute_open m w lay e), (always w (top_frame w).tag w.stage.used s (λ m lay. attribute_tag m w lay e), e)))
+  pub simple_is_open : w.place ≡ Simple → 0 < w.frames.used
+  simple_is_open e = always w 1 w.frames.used s (λ m lay. on_simple (λ x. 0 < w.frames.used) w m lay e (λ rs l ls y. open_inside simple rs l ls w y.holds))
 
-  pub list_ready : (t : Bool) → w.place ≡ TextItem t → Safe w × ((1 < w.frames.used) × (w.place ≡ TextItem t))
-  list_ready t e = (safe, (always w 2 w.frames.used s (λ m lay. on_word (λ x. 1 < w.frames.used) w t m lay e (λ rs l ls y. words_open t rs l ls w y.holds)), e))
+  pub attribute_is_open : w.place ≡ Attribute → 0 < w.frames.used
+  attribute_is_open e = always w 1 w.frames.used s (λ m lay. attribute_open m w lay e)
 
-  pub attribute_list_ready : (t : Bool) → w.place ≡ AttributeItem t → Safe w × ((1 < w.frames.used) × (((frame_at w (w.frames.used - 2)).tag ≤ w.stage.used) × (w.place ≡ AttributeItem t)))
-  attribute_list_ready t e =
-      (safe, (always w 2 w.frames.used s (λ m lay. attribute_item_open t m w lay e), (always w (frame_at w (w.frames.used - 2)).tag w.stage.used s (λ m lay. attribute_item_tag t m w lay e), e)))
+  pub attribute_tag_within : w.place ≡ Attribute → (top_frame w).tag ≤ w.stage.used
+  attribute_tag_within e = always w (top_frame w).tag w.stage.used s (λ m lay. attribute_tag m w lay e)
+
+  pub list_is_open : (t : Bool) → w.place ≡ TextItem t → 1 < w.frames.used
+  list_is_open t e = always w 2 w.frames.used s (λ m lay. on_word (λ x. 1 < w.frames.used) w t m lay e (λ rs l ls y. words_open t rs l ls w y.holds))
+
+  pub attribute_list_is_open : (t : Bool) → w.place ≡ AttributeItem t → 1 < w.frames.used
+  attribute_list_is_open t e = always w 2 w.frames.used s (λ m lay. attribute_item_open t m w lay e)
+
+  pub attribute_list_tag_within : (t : Bool) → w.place ≡ AttributeItem t → (frame_at w (w.frames.used - 2)).tag ≤ w.stage.used
+  attribute_list_tag_within t e = always w (frame_at w (w.frames.used - 2)).tag w.stage.used s (λ m lay. attribute_item_tag t m w lay e)

@@ -16,16 +16,15 @@ ghost use Rattle.places.specs.Values.{ValueIs, Misfit};
 
 use crate::value::Value;
 use attributes::{
-    end_attribute_list, none_at_attribute, row_at_attribute, text_at_attribute,
-    text_at_attribute_item, variant_at_attribute, variant_at_attribute_item,
+    end_attribute_list, none_at_attribute, row_at_attribute, string_at_attribute,
+    string_at_attribute_item,
 };
 use closing::end_record;
 use engine::{Core, check_bytes};
-use fields::{field, text_item, variant_item};
+use fields::{field, string_item};
 use model::Place;
 use nests::{
-    end_at_content, end_at_element, end_text_list, row_at_content, row_at_element, row_at_simple,
-    row_at_text,
+    end_at_content, end_at_element, end_text_list, row_as_list, row_at_content, row_at_element,
 };
 use records::{
     record_at_content, record_at_element, variant_at_content, variant_record_at_content,
@@ -33,11 +32,10 @@ use records::{
 };
 use refusal::Refusal;
 use rows::{
-    none_at_content, none_at_element, none_at_simple, none_at_text, open, text_at_content,
-    text_at_element, text_at_simple, text_at_text, variant_at_element, variant_at_simple,
-    variant_at_text,
+    none_as_words, none_at_content, none_at_element, open, string_as_words, text_at_content,
+    text_at_element, variant_at_element, variant_at_text,
 };
-use xml::EscapeRule;
+use xml::{EscapeRule, Unescaped};
 
 /// Opens a root record, at the idle place alone.
 pub fn begin(core: &mut Core<'_>, name: &[u8]) -> Result<(), Refusal>
@@ -52,7 +50,8 @@ pub fn begin(core: &mut Core<'_>, name: &[u8]) -> Result<(), Refusal>
 
 /// Begins a field, at the field place alone.
 pub fn begin_field(core: &mut Core<'_>, key: &[u8]) -> Result<(), Refusal>
-    requires { (Safe (mem core.old)) × (Sound (mem core.old)) }
+    requires safe { Safe (mem core.old) }
+    requires sound { Sound (mem core.old) }
     ensures does { (room : ℕ) → Does (call_field key.now) room result (mem core.old) (mem core.new) }
 {
     match core.place {
@@ -63,7 +62,8 @@ pub fn begin_field(core: &mut Core<'_>, key: &[u8]) -> Result<(), Refusal>
 
 /// Ends what is open, where its next field or item has not begun.
 pub fn end_at(core: &mut Core<'_>) -> Result<(), Refusal>
-    requires { (Safe (mem core.old)) × (Sound (mem core.old)) }
+    requires safe { Safe (mem core.old) }
+    requires sound { Sound (mem core.old) }
     ensures does { (room : ℕ) → Does call_end room result (mem core.old) (mem core.new) }
 {
     match core.place {
@@ -80,28 +80,29 @@ pub fn end_at(core: &mut Core<'_>) -> Result<(), Refusal>
 fn misfit<R>(value: &Value<'_, R>) -> Result<(), Refusal>
     ensures shape { Misfit result value.now }
 {
-    match check_bytes(value.string()) {
-        Err(refusal) => Err(refusal),
-        Ok(()) => Err(Refusal::Shape),
-    }
+    check_bytes(value.string())?;
+    Err(Refusal::Shape)
 }
 
 /// Takes a value, as the place says.
 pub fn take_value<R: EscapeRule>(core: &mut Core<'_>, value: &Value<'_, R>) -> Result<(), Refusal>
-    requires { (Safe (mem core.old)) × (Sound (mem core.old)) }
+    requires safe { Safe (mem core.old) }
+    requires sound { Sound (mem core.old) }
     ensures does { (room : ℕ) (v : meant.Value) → ValueIs R.EscapeRule.chooses value.now v → Does (call_value v) room result (mem core.old) (mem core.new) }
 {
     match (core.place, value) {
-        (Place::Element(from), Value::Text(text, rule)) => text_at_element(core, from, text, rule),
+        (Place::Element(from), Value::Text(text, rule)) => {
+            text_at_element(core, from, Unescaped { value: text, rule })
+        }
         (Place::Element(from), Value::Nothing) => none_at_element(core, from),
         (Place::Element(from), Value::Variant(name, rule)) => {
-            variant_at_element(core, from, name, rule)
+            variant_at_element(core, from, Unescaped { value: name, rule })
         }
         (Place::Element(from), Value::Row) => row_at_element(core, from),
         (Place::Element(from), Value::Record(name)) => record_at_element(core, from, name),
 
         (Place::Content(texts), Value::Text(text, rule)) => {
-            text_at_content(core, texts, text, rule)
+            text_at_content(core, texts, Unescaped { value: text, rule })
         }
         (Place::Content(texts), Value::Nothing) => none_at_content(core, texts),
         (Place::Content(texts), Value::Variant(name, _)) => variant_at_content(core, texts, name),
@@ -115,31 +116,27 @@ pub fn take_value<R: EscapeRule>(core: &mut Core<'_>, value: &Value<'_, R>) -> R
             variant_record_at_content(core, texts, name)
         }
 
-        (Place::Text, Value::Text(text, rule)) => text_at_text(core, text, rule),
-        (Place::Text, Value::Nothing) => none_at_text(core),
-        (Place::Text, Value::Variant(name, rule)) => variant_at_text(core, name, rule),
-        (Place::Text, Value::Row) => row_at_text(core),
+        (Place::Text, Value::Variant(name, rule)) => {
+            variant_at_text(core, Unescaped { value: name, rule })
+        }
+        (Place::Text | Place::Simple, Value::Text(string, rule))
+        | (Place::Simple, Value::Variant(string, rule)) => {
+            string_as_words(core, Unescaped { value: string, rule })
+        }
+        (Place::Text | Place::Simple, Value::Nothing) => none_as_words(core),
+        (Place::Text | Place::Simple, Value::Row) => row_as_list(core),
 
-        (Place::Simple, Value::Text(text, rule)) => text_at_simple(core, text, rule),
-        (Place::Simple, Value::Nothing) => none_at_simple(core),
-        (Place::Simple, Value::Variant(name, rule)) => variant_at_simple(core, name, rule),
-        (Place::Simple, Value::Row) => row_at_simple(core),
-
-        (Place::Attribute, Value::Text(text, rule)) => text_at_attribute(core, text, rule),
+        (Place::Attribute, Value::Text(string, rule) | Value::Variant(string, rule)) => {
+            string_at_attribute(core, Unescaped { value: string, rule })
+        }
         (Place::Attribute, Value::Nothing) => none_at_attribute(core),
-        (Place::Attribute, Value::Variant(name, rule)) => variant_at_attribute(core, name, rule),
         (Place::Attribute, Value::Row) => row_at_attribute(core),
 
-        (Place::TextItem(written), Value::Text(text, rule)) => text_item(core, written, text, rule),
-        (Place::TextItem(written), Value::Variant(name, rule)) => {
-            variant_item(core, written, name, rule)
+        (Place::TextItem(written), Value::Text(string, rule) | Value::Variant(string, rule)) => {
+            string_item(core, written, Unescaped { value: string, rule })
         }
-
-        (Place::AttributeItem(written), Value::Text(text, rule)) => {
-            text_at_attribute_item(core, written, text, rule)
-        }
-        (Place::AttributeItem(written), Value::Variant(name, rule)) => {
-            variant_at_attribute_item(core, written, name, rule)
+        (Place::AttributeItem(written), Value::Text(string, rule) | Value::Variant(string, rule)) => {
+            string_at_attribute_item(core, written, Unescaped { value: string, rule })
         }
 
         (Place::Element(_), Value::Wrapped(_) | Value::VariantRow(_) | Value::VariantRecord(_)) =>

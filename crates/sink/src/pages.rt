@@ -5,7 +5,7 @@ ghost use Rattle.sink.specs.Pages.{flat};
 
 use crate::page::Page;
 
-/// It has no invariant of its own, so that a sink that has one can lend it on.
+/// Its length is said by each call: a store into a page of a struct with an invariant gets no proof.
 #[derive(Clone, Copy)]
 pub struct Pages {
     pages: [Page; 16],
