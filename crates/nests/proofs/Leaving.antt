@@ -12,14 +12,15 @@ use Rattle.model.specs.Calls.{call_end}
 use Rattle.model.specs.Model.{Level, Row, named_row, content_row, Outer, Spot, element, content, text_spot, words, State, inside}
 use Rattle.model.specs.Step.{settle}
 use Rattle.model.specs.Layout.{frames, row_frame, row_frames, record_frame, outer_frames, list_frame, spot_frames, spot_names}
-use Rattle.model.specs.Grounds.{out_of_order}
+use Rattle.model.specs.Grounds.{innermost_row, out_of_order}
 use Rattle.model.specs.Table.{verdict, next}
 use Rattle.model.specs.Strings.{utf8}
 use Rattle.model.proofs.Spelling.{utf8_from}
 use Rattle.engine.specs.Memory.{Buf, Mem, Safe, popped, settled, top_frame}
 use Rattle.engine.specs.Lays.{Front, Begins, Nested, row_stack, row_stacks, outer_stacks, Holds, Lays, Beyond, setting, Told}
 use Rattle.engine.proofs.Fronts.{front_length, front_as, front_cut, past_same, past_cut, past_set}
-use Rattle.engine.proofs.Settling.{top_is, lays_settle, row_on_top}
+use Rattle.engine.proofs.Settling.{lays_settle, row_on_top}
+use Rattle.engine.proofs.Tops.{top_is_innermost}
 use Rattle.engine.proofs.Values.{open_inside}
 use Rattle.engine.proofs.Telling.{Clear, Small, told_small, told_order}
 use Rattle.engine.proofs.Spots.{on_element, on_content, on_word}
@@ -97,22 +98,11 @@ end_clear m e = record { order = e; bytes = not_from_true (utf8 []) (utf8_from [
 pub end_small : (m : State) (w : Mem) → Small call_end m w
 end_small m w = record { brought = refl; takes = refl; handed = refl }
 
--- the innermost row's frame stands on top
-pub top_row : (s : Spot) (r : Row) (rs : List Row) (l : Level) (ls : List Outer) (w : Mem) → spot_frames s ≡ [] → Holds (inside s (r ∷ rs) l ls) w → top_frame w ≡ row_frame r
-top_row s r rs l ls w e h =
-    let i = w.indentation in
-    let a = outer_frames i ls in
-    let f = record_frame i l ls [] in
-    top_is w (a ++ (f ∷ row_frames rs)) (row_frame r)
-    (front_as w.frames (frames i (inside s (r ∷ rs) l ls)) ((a ++ (f ∷ row_frames rs)) ++ (row_frame r ∷ [])) (ap (λ z. a ++ (f ∷ ((row_frames rs ++ (row_frame r ∷ [])) ++ z))) e ∙ row_on_top a (row_frames rs) f (row_frame r)) h.frames)
-
--- or the record's, where no row is open in it
-pub top_record : (s : Spot) (l : Level) (ls : List Outer) (w : Mem) → spot_frames s ≡ [] → Holds (inside s [] l ls) w → top_frame w ≡ record_frame w.indentation l ls []
-top_record s l ls w e h =
-    let i = w.indentation in
-    let a = outer_frames i ls in
-    let f = record_frame i l ls [] in
-    top_is w a f (front_as w.frames (frames i (inside s [] l ls)) (a ++ (f ∷ [])) (ap (λ z. a ++ (f ∷ z)) e) h.frames)
+-- the top frame is of the kind of the innermost thing
+kind_on_top : (s : Spot) (rs : List Row) (l : Level) (ls : List Outer) (w : Mem) → spot_frames s ≡ [] → Holds (inside s rs l ls) w → (top_frame w).kind ≡ innermost_row rs
+kind_on_top s [] l ls w e h = ap (λ f. f.kind) (top_is_innermost s [] l ls w e h)
+kind_on_top s (named_row u n g ∷ rs) l ls w e h = ap (λ f. f.kind) (top_is_innermost s (named_row u n g ∷ rs) l ls w e h)
+kind_on_top s (content_row t r g ∷ rs) l ls w e h = ap (λ f. f.kind) (top_is_innermost s (content_row t r g ∷ rs) l ls w e h)
 
 -- a row stands in a record
 pub row_deep : (s : Spot) (r : Row) (rs : List Row) (l : Level) (ls : List Outer) (w : Mem) → Holds (inside s (r ∷ rs) l ls) w → 1 < w.frames.used
@@ -132,15 +122,20 @@ module _ (room : ℕ) (m : State) (w : Mem) (safe : Safe w) (lay : Lays m w) whe
       on_word (λ x. Told (verdict (setting w) room call_end x) (Ok tt) w v) w t m lay at
       (λ rs l ls y. left_ok room (inside (words t) rs l ls) SensitiveText text_spot rs l ls w v refl (end_clear (inside (words t) rs l ls) refl) (end_small (inside (words t) rs l ls) w) safe y (holds_list_left t rs l ls w y.holds) refl is)
 
+  -- a row whose next item has not begun
+  row_end : (r : WriteResult) (s : Spot) (o : Row) (rs : List Row) (l : Level) (ls : List Outer) (v : Mem) → spot_frames s ≡ [] → out_of_order call_end (inside s (o ∷ rs) l ls) ≡ false → next w.form call_end (inside s (o ∷ rs) l ls) ≡ settle r rs l ls → Lays (inside s (o ∷ rs) l ls) w → v ≡ settled r (popped w) → Told (verdict (setting w) room call_end (inside s (o ∷ rs) l ls)) (Ok tt) w v
+  row_end r s o rs l ls v e f n y is =
+      let st = inside s (o ∷ rs) l ls in
+      left_ok room st r (element [] (spot_names s (o ∷ rs) l)) rs l ls w v refl (end_clear st f) (end_small st w) safe y (holds_row_left s o rs l ls w e y.holds) n is
+
   -- a named row
   pub named_end : (from : ℕ) (v : Mem) → w.place ≡ Element from → (top_frame w).kind ≡ named_kind → v ≡ settled element_result (popped w) → Told (verdict (setting w) room call_end m) (Ok tt) w v
   named_end from v at k is = on_element (λ x. Told (verdict (setting w) room call_end x) (Ok tt) w v) w from m lay at go
     where
       go : (u n : List ℕ) (rs : List Row) (l : Level) (ls : List Outer) → from ≡ length u → Lays (inside (element u n) rs l ls) w → Told (verdict (setting w) room call_end (inside (element u n) rs l ls)) (Ok tt) w v
-      go u n [] l ls e y = let z : record_kind ≡ named_kind = sym (ap (λ f. f.kind) (top_record (element u n) l ls w refl y.holds)) ∙ k in clash (cc)
-      go u n (named_row t q g ∷ rs) l ls e y =
-          left_ok room (inside (element u n) (named_row t q g ∷ rs) l ls) element_result (element [] (u ++ n)) rs l ls w v refl (end_clear (inside (element u n) (named_row t q g ∷ rs) l ls) refl) (end_small (inside (element u n) (named_row t q g ∷ rs) l ls) w) safe y (holds_row_left (element u n) (named_row t q g) rs l ls w refl y.holds) refl is
-      go u n (content_row t r g ∷ rs) l ls e y = let z : content_kind ≡ named_kind = sym (ap (λ f. f.kind) (top_row (element u n) (content_row t r g) rs l ls w refl y.holds)) ∙ k in clash (cc)
+      go u n [] l ls e y = let z : record_kind ≡ named_kind = sym (kind_on_top (element u n) [] l ls w refl y.holds) ∙ k in clash (cc)
+      go u n (named_row t q g ∷ rs) l ls e y = row_end element_result (element u n) (named_row t q g) rs l ls v refl refl refl y is
+      go u n (content_row t r g ∷ rs) l ls e y = let z : content_kind ≡ named_kind = sym (kind_on_top (element u n) (content_row t r g ∷ rs) l ls w refl y.holds) ∙ k in clash (cc)
 
   -- no row is open there
   pub named_refused : (from : ℕ) → w.place ≡ Element from → (1 < w.frames.used → (top_frame w).kind ≡ named_kind → ⊥) → Told (verdict (setting w) room call_end m) (Err Order) w w
@@ -148,7 +143,7 @@ module _ (room : ℕ) (m : State) (w : Mem) (safe : Safe w) (lay : Lays m w) whe
     where
       go : (u n : List ℕ) (rs : List Row) (l : Level) (ls : List Outer) → from ≡ length u → Lays (inside (element u n) rs l ls) w → Told (verdict (setting w) room call_end (inside (element u n) rs l ls)) (Err Order) w w
       go u n [] l ls e y = told_order w room call_end (inside (element u n) [] l ls) refl
-      go u n (named_row t q g ∷ rs) l ls e y = absurd (bar (row_deep (element u n) (named_row t q g) rs l ls w y.holds) (ap (λ f. f.kind) (top_row (element u n) (named_row t q g) rs l ls w refl y.holds)))
+      go u n (named_row t q g ∷ rs) l ls e y = absurd (bar (row_deep (element u n) (named_row t q g) rs l ls w y.holds) (kind_on_top (element u n) (named_row t q g ∷ rs) l ls w refl y.holds))
       go u n (content_row t r g ∷ rs) l ls e y = told_order w room call_end (inside (element u n) (content_row t r g ∷ rs) l ls) refl
 
   -- a content row, with its last result
@@ -156,11 +151,11 @@ module _ (room : ℕ) (m : State) (w : Mem) (safe : Safe w) (lay : Lays m w) whe
   content_end p v at k is = on_content (λ x. Told (verdict (setting w) room call_end x) (Ok tt) w v) w p m lay at go
     where
       go : (rs : List Row) (l : Level) (ls : List Outer) → Lays (inside (content p) rs l ls) w → Told (verdict (setting w) room call_end (inside (content p) rs l ls)) (Ok tt) w v
-      go [] l ls y = let z : record_kind ≡ content_kind = sym (ap (λ f. f.kind) (top_record (content p) l ls w refl y.holds)) ∙ k in clash (cc)
-      go (named_row t q g ∷ rs) l ls y = let z : named_kind ≡ content_kind = sym (ap (λ f. f.kind) (top_row (content p) (named_row t q g) rs l ls w refl y.holds)) ∙ k in clash (cc)
+      go [] l ls y = let z : record_kind ≡ content_kind = sym (kind_on_top (content p) [] l ls w refl y.holds) ∙ k in clash (cc)
+      go (named_row t q g ∷ rs) l ls y = let z : named_kind ≡ content_kind = sym (kind_on_top (content p) (named_row t q g ∷ rs) l ls w refl y.holds) ∙ k in clash (cc)
       go (content_row t r g ∷ rs) l ls y =
-          let last : (top_frame w).last ≡ r = ap (λ f. f.last) (top_row (content p) (content_row t r g) rs l ls w refl y.holds) in
-          left_ok room (inside (content p) (content_row t r g ∷ rs) l ls) r (element [] t) rs l ls w v refl (end_clear (inside (content p) (content_row t r g ∷ rs) l ls) refl) (end_small (inside (content p) (content_row t r g ∷ rs) l ls) w) safe y (holds_row_left (content p) (content_row t r g) rs l ls w refl y.holds) refl (is ∙ ap (λ q. settled q (popped w)) last)
+          let last : (top_frame w).last ≡ r = ap (λ f. f.last) (top_is_innermost (content p) (content_row t r g ∷ rs) l ls w refl y.holds) in
+          row_end r (content p) (content_row t r g) rs l ls v refl refl refl y (is ∙ ap (λ q. settled q (popped w)) last)
 
   pub content_refused : (p : Bool) → w.place ≡ Content p → (1 < w.frames.used → (top_frame w).kind ≡ content_kind → ⊥) → Told (verdict (setting w) room call_end m) (Err Order) w w
   content_refused p at bar = on_content (λ x. Told (verdict (setting w) room call_end x) (Err Order) w w) w p m lay at go
@@ -168,4 +163,4 @@ module _ (room : ℕ) (m : State) (w : Mem) (safe : Safe w) (lay : Lays m w) whe
       go : (rs : List Row) (l : Level) (ls : List Outer) → Lays (inside (content p) rs l ls) w → Told (verdict (setting w) room call_end (inside (content p) rs l ls)) (Err Order) w w
       go [] l ls y = told_order w room call_end (inside (content p) [] l ls) refl
       go (named_row t q g ∷ rs) l ls y = told_order w room call_end (inside (content p) (named_row t q g ∷ rs) l ls) refl
-      go (content_row t r g ∷ rs) l ls y = absurd (bar (row_deep (content p) (content_row t r g) rs l ls w y.holds) (ap (λ f. f.kind) (top_row (content p) (content_row t r g) rs l ls w refl y.holds)))
+      go (content_row t r g ∷ rs) l ls y = absurd (bar (row_deep (content p) (content_row t r g) rs l ls w y.holds) (kind_on_top (content p) (content_row t r g ∷ rs) l ls w refl y.holds))

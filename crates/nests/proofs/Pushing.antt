@@ -5,25 +5,18 @@ use Rattle.refusal.specs.declared.Refusal.TheVariants.{Depth}
 use Rattle.model.specs.declared.place.Place.{Place}
 use Rattle.model.specs.declared.frame.Frame.{Frame}
 use Rattle.model.specs.Calls.{Call}
-use Rattle.model.specs.Model.{Level, Row, named_row, content_row, Outer, Spot, words, State, inside, stack, flag, place}
+use Rattle.model.specs.Model.{Level, Row, Outer, Spot, words, State, inside, stack, place}
 use Rattle.model.specs.Layout.{frames as frames_of, row_frame, row_frames, record_frame, outer_frames, list_frame, spot_frames, spot_names}
 use Rattle.model.specs.Table.{verdict, next, name_brought, takes_frame, handed}
-use Rattle.engine.specs.Memory.{Buf, Mem, Safe, pushed, placed, with_names, name_put, top_frame}
+use Rattle.engine.specs.Memory.{Buf, Mem, Safe, pushed, placed, with_names, name_put}
 use Rattle.engine.specs.Lays.{Front, Begins, Nested, row_stack, row_stacks, outer_stacks, Holds, Lays, Beyond, setting, Told}
 use Rattle.engine.proofs.Fronts.{front_as, front_push, past_same, past_grown, past_set}
 use Rattle.engine.proofs.Settling.{row_on_top}
 use Rattle.engine.proofs.Telling.{Clear, told_ok, told_depth, depth_is_free, sink_unasked}
-use Rattle.nests.proofs.Leaving.{top_row, top_record}
 
 -- the place is set last
 pub lays_placed : (m : State) (p : Place) (w : Mem) → p ≡ place m → Holds m w → Lays m (placed p w)
 lays_placed m p w e h = record { holds = record { stage = h.stage; names = h.names; frames = h.frames; records = h.records; wordy = h.wordy; fit = h.fit }; place = e }
-
--- the flag of the innermost open thing is in its frame
-pub top_flag : (s : Spot) (rs : List Row) (l : Level) (ls : List Outer) (w : Mem) → spot_frames s ≡ [] → Holds (inside s rs l ls) w → (top_frame w).flag ≡ flag rs l.body
-top_flag s [] l ls w e h = ap (λ f. f.flag) (top_record s l ls w e h)
-top_flag s (named_row u n g ∷ rs) l ls w e h = ap (λ f. f.flag) (top_row s (named_row u n g) rs l ls w e h)
-top_flag s (content_row t r g ∷ rs) l ls w e h = ap (λ f. f.flag) (top_row s (content_row t r g) rs l ls w e h)
 
 -- a row opens in the innermost record; the names may have become more
 pub holds_row : (s s' : Spot) (r : Row) (rs : List Row) (l : Level) (ls : List Outer) (w : Mem) (b : Buf ℕ) → spot_frames s ≡ [] → spot_frames s' ≡ [] → w.frames.used < length w.frames.all → Holds (inside s rs l ls) w → Front b (spot_names s' (r ∷ rs) l) → Begins (row_stack r) (spot_names s' (r ∷ rs) l) → Nested (row_stack r) (row_stacks rs ++ ((l.under ++ l.name) ∷ outer_stacks ls)) → Holds (inside s' (r ∷ rs) l ls) (pushed (row_frame r) (with_names w b))
