@@ -14,14 +14,8 @@ grown-++ b s t h =
     same_buf (laid (laid b.all b.used s) (b.used + length s) t) (laid b.all b.used (s ++ t)) (b.used + length s + length t) (b.used + length (s ++ t))
     (laid-laid b.all s t b.used (omega arith)) (omega (arith, n))
 
-pub grown_none : (b : Buf ℕ) → grown b [] ≡ b
-grown_none b = same_buf (laid b.all b.used []) b.all (b.used + 0) b.used (sym (laid_none b.all b.used)) (omega arith)
-
 pub appended-++ : (w : Mem) (s t : List ℕ) → w.stage.used + (length s + length t) ≤ length w.stage.all → appended t (appended s w) ≡ appended (s ++ t) w
 appended-++ w s t h = ap (with_stage w) (grown-++ w.stage s t h)
-
-pub appended_none : (w : Mem) → appended [] w ≡ w
-appended_none w = ap (with_stage w) (grown_none w.stage)
 
 -- three pieces in a row
 pub appended_three : (w : Mem) (r s t : List ℕ) → w.stage.used + (length r + (length s + length t)) ≤ length w.stage.all → appended t (appended s (appended r w)) ≡ appended (r ++ (s ++ t)) w

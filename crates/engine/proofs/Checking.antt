@@ -61,13 +61,3 @@ name_faultless n is u = go (name_fault n) refl
     go : (r : Option ℕ) → name_fault n ≡ r → name_fault n ≡ None
     go None e = e
     go (Some k) e = absurd ((faults_of n u (Some k) (sym e)).1 is)
-
--- a comparison of bytes as a test
-pub same_is : (xs ys : List ℕ) (r : Bool) → Decides r (xs ≡ ys) → r ≡ bytes_eq xs ys
-same_is xs ys r d = go r (bytes_eq xs ys) d (bytes_eq-Decides xs ys)
-  where
-    go : (a b : Bool) → Decides a (xs ≡ ys) → Decides b (xs ≡ ys) → a ≡ b
-    go true true p q = refl
-    go false false p q = refl
-    go true false p q = absurd (both_ways false refl (q.1 (p.0 refl)))
-    go false true p q = absurd (both_ways false refl (p.1 (q.0 refl)))

@@ -2,7 +2,6 @@ pub mod Sheets
 pub mod Examples
 pub mod Moves
 pub mod Tables
-pub mod Verdicts
 pub mod Documents
 pub mod Indents
 pub mod Settled

@@ -67,9 +67,6 @@ not_idle Complete h = refl
 pub abandon_told : (room : ℕ) (w v : Mem) → Safe w → (w.place ≡ Idle → ⊥) → v ≡ emptied w → Does call_abandon room (Ok tt) w v
 abandon_told room w v safe h is = subst (λ x. Does call_abandon room (Ok tt) w x) (sym is) (abandon_ok room w safe (not_idle w.place h))
 
-pub abandon_refused : (room : ℕ) (w : Mem) → is_idle (sort w.place) ≡ true → Does call_abandon room (Err Order) w w
-abandon_refused room w h m lay = told_order w room call_abandon m (ap (λ p. not (not (is_idle (sort p)))) (sym lay.place) ∙ ap (λ b. not (not b)) h)
-
 -- a root's tag, without attributes and children
 stage_root : (i : Option Indentation) (n : List ℕ) → 60 ∷ n ≡ stage i (between (new_level [] n) [])
 stage_root i n = ap (λ z. 60 ∷ z) (sym (append-nil n) ∙ sym (append-nil (n ++ [])) ∙ sym (append-nil ((n ++ []) ++ [])))
@@ -79,13 +76,6 @@ same_frame f t k o p q r =
     ap (λ x. record { kind = f.kind; flag = f.flag; last = f.last; tag = x; keep = f.keep; from = f.from }) p
     ∙ ap (λ x. record { kind = f.kind; flag = f.flag; last = f.last; tag = t; keep = x; from = f.from }) q
     ∙ ap (λ x. record { kind = f.kind; flag = f.flag; last = f.last; tag = t; keep = k; from = x }) r
-
--- the code's steps, put together
-pub root_entered : (n : List ℕ) (w a b d e : Mem) → w.stage.used + (1 + length n) ≤ length w.stage.all → a ≡ appended (60 ∷ []) w → b ≡ appended n a → d ≡ name_put n b → e ≡ pushed (record { kind = record_kind; flag = true; last = element_result; tag = d.stage.used; keep = d.names.used; from = w.names.used }) d → placed Field (worded false (counted 1 e)) ≡ entered n w
-root_entered n w a b d e fits p q r s =
-    let less : List ℕ = 60 ∷ [] in
-    let h : d ≡ name_put n (appended (60 ∷ n) w) = r ∙ ap (name_put n) (q ∙ ap (appended n) p ∙ appended-++ w less n (omega (arith, fits))) in
-    ap (λ x. placed Field (worded false (counted 1 x))) (s ∙ ap (λ x. pushed (record { kind = record_kind; flag = true; last = element_result; tag = x.stage.used; keep = x.names.used; from = w.names.used }) x) h)
 
 module _ (n : List ℕ) (w : Mem) (lay : Lays idle w) where
   unused : w.stage.used ≡ 0
@@ -141,11 +131,3 @@ module _ (n : List ℕ) (room : ℕ) (w v : Mem) (safe : Safe w) (at : w.place �
 
     pub open_told : (res : Result (Unit {0}) Refusal) → Opens res n w v → Does (call_open n) room res w v
     open_told res h m lay = on_idle (λ x. Told (verdict (setting w) room (call_open n) x) res w v) w m lay at (λ y. open_idle res h y)
-
-  pub open_ill_formed : (e : Refusal) → utf8 n ≡ false → e ≡ BytesAt (whole n) → Does (call_open n) room (Err e) w w
-  open_ill_formed e bad is m lay = on_idle (λ x. Told (verdict (setting w) room (call_open n) x) (Err e) w w) w m lay at (λ y. told_ill_formed w room (call_open n) idle e refl bad is)
-
-  pub open_misnamed : (e : Refusal) → utf8 n ≡ true → name_fault n ≡ Some (offset e) → e ≡ NameAt (offset e) → Does (call_open n) room (Err e) w w
-  open_misnamed e fine fault is m lay =
-      on_idle (λ x. Told (verdict (setting w) room (call_open n) x) (Err e) w w) w m lay at
-      (λ y. subst (λ z. Told (verdict (setting w) room (call_open n) idle) (Err z) w w) (sym is) (told_name w room (call_open n) idle (offset e) refl (not_from_true (utf8 n) fine) refl refl fault))

@@ -101,12 +101,6 @@ module _ (c : Value) (room : ℕ) (w : Mem) (e : Refusal) (bad : utf8 (value_str
   pub content_ill_formed : (p : Bool) → w.place ≡ Content p → Does (call_value c) room (Err e) w w
   content_ill_formed p at m lay = spots.on_content (λ x. Told (verdict (setting w) room (call_value c) x) (Err e) w w) w p m lay at (λ rs l ls y. told_ill_formed w room (call_value c) (inside (content p) rs l ls) e refl bad is)
 
-  pub text_ill_formed : w.place ≡ Text → Does (call_value c) room (Err e) w w
-  text_ill_formed at m lay = spots.on_text (λ x. Told (verdict (setting w) room (call_value c) x) (Err e) w w) w m lay at (λ rs l ls y. told_ill_formed w room (call_value c) (inside text_spot rs l ls) e refl bad is)
-
-  pub simple_ill_formed : w.place ≡ Simple → Does (call_value c) room (Err e) w w
-  simple_ill_formed at m lay = spots.on_simple (λ x. Told (verdict (setting w) room (call_value c) x) (Err e) w w) w m lay at (λ rs l ls y. told_ill_formed w room (call_value c) (inside simple rs l ls) e refl bad is)
-
 -- text where the content place allows none
 pub content_run_on : (c : Value) (room : ℕ) (w : Mem) (p : Bool) → utf8 (value_string c) ≡ true → no_content c ≡ false → (is_text c && not p) ≡ true → w.place ≡ Content p → Does (call_value c) room (Err RunOn) w w
 content_run_on c room w p fine shape t at m lay =

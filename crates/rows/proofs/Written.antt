@@ -10,22 +10,8 @@ use Rattle.rows.specs.Pieces.{lead_of, name_of, empty_bytes, open_bytes, close_b
 pub name_length : (w : Mem) (from end : ℕ) → from ≤ end → end ≤ length w.names.all → length (name_at w from end) ≡ end - from
 name_length w from end a b = length-take (end - from) (drop from w.names.all) ∙ (let d = length-drop from w.names.all in omega (arith, d))
 
-pub close_length : (n : List ℕ) → length (close_bytes n) ≡ length n + 3
-close_length n = let a = length-append n (codes ">") in omega (arith, a)
-
-pub open_length : (w : Mem) (n : List ℕ) → length (open_bytes w n) ≡ length (lead_of w) + (length n + 1)
-open_length w n = let a = length-append n (codes ">") in let b = length-append (lead_of w) (n ++ codes ">") in omega (arith, a, b)
-
 pub empty_length : (w : Mem) (n : List ℕ) → length (empty_bytes w n) ≡ length (lead_of w) + (length n + length (shut w.form n))
 empty_length w n = let a = length-append n (shut w.form n) in let b = length-append (lead_of w) (n ++ shut w.form n) in omega (arith, a, b)
-
-pub text_length : (w : Mem) (n s : List ℕ) → length (text_bytes w n s) ≡ length (lead_of w) + (length n + 1) + (length s + (length n + 3))
-text_length w n s =
-    let a = open_length w n in
-    let b = close_length n in
-    let c = length-append s (close_bytes n) in
-    let d = length-append (open_bytes w n) (s ++ close_bytes n) in
-    omega (arith, a, b, c, d)
 
 -- a piece, a name from the name stack, and a piece
 pub around_name : (w a b c : Mem) (from end : ℕ) (front back : List ℕ) → w.stage.used + (length front + (length (name_at w from end) + length back)) ≤ length w.stage.all → a ≡ appended front w → b ≡ appended (name_at a from end) a → c ≡ appended back b → c ≡ appended (front ++ (name_at w from end ++ back)) w
@@ -51,15 +37,3 @@ after w a s e fits =
       depth = ap (λ x. x.frames.used) e;
       frames = ap (λ x. length x.frames.all) e;
     }
-
-pub empty_written : (w a b c : Mem) (from : ℕ) → w.stage.used + (length (lead_of w) + (length (name_of w from) + length (shut w.form (name_of w from)))) ≤ length w.stage.all → a ≡ appended (lead_of w) w → b ≡ appended (name_at a from w.names.used) a → c ≡ appended (shut b.form (name_of b from)) b → c ≡ appended (empty_bytes w (name_of w from)) w
-empty_written w a b c from fits p q r =
-    r ∙ ap (λ x. appended (shut x.form (name_of x from)) x) (q ∙ ap (λ x. appended (name_at x from w.names.used) x) p) ∙ appended_three w (lead_of w) (name_of w from) (shut w.form (name_of w from)) fits
-
--- what is left to write of an empty element, behind its name
-pub shut_after : (w a b : Mem) (from : ℕ) → a ≡ appended (lead_of w) w → b ≡ appended (name_at a from w.names.used) a → length (shut b.form (name_of b from)) ≡ length (shut w.form (name_of w from))
-shut_after w a b from p q = ap (λ x. length (shut x.form (name_of x from))) (q ∙ ap (λ x. appended (name_at x from w.names.used) x) p)
-
-pub text_written : (w a b c : Mem) (from : ℕ) (s : List ℕ) → w.stage.used + (length (open_bytes w (name_of w from)) + (length s + length (close_bytes (name_of w from)))) ≤ length w.stage.all → a ≡ appended (open_bytes w (name_of w from)) w → b ≡ appended s a → c ≡ appended (close_bytes (name_of b from)) b → c ≡ appended (text_bytes w (name_of w from) s) w
-text_written w a b c from s fits p q r =
-    r ∙ ap (λ x. appended (close_bytes (name_of x from)) x) (q ∙ ap (appended s) p) ∙ appended_three w (open_bytes w (name_of w from)) s (close_bytes (name_of w from)) fits

@@ -1,6 +1,5 @@
-use Rattle.std.proofs.Common.{ap, ◌∙◌, arith}
+use Rattle.std.proofs.Common.{arith}
 use Rattle.std.proofs.lemmas.List.{length-append}
-use Rattle.memory.specs.Laid.{laid}
 use Rattle.memory.proofs.Laying.{laid-laid}
 use Rattle.memory.proofs.piece.Tuple2Piece.lay.Goals as goal
 
@@ -9,4 +8,4 @@ returns-clause-bytes g c =
     let a = g.A.Piece.bytes c.args.self.now.0 in
     let b = g.B.Piece.bytes c.args.self.now.1 in
     let n = length-append a b in
-    c.lay.ensures.bytes ∙ ap (λ x. laid x c.lay-middle.result b) c.lay-middle.ensures.bytes ∙ ap (λ x. laid (laid c.args.out.now c.args.at a) x b) c.lay-middle.ensures.end ∙ laid-laid c.args.out.now a b c.args.at (omega arith)
+    rw (c.lay.ensures.bytes, c.lay-middle.ensures.bytes, c.lay-middle.ensures.end) (laid-laid c.args.out.now a b c.args.at (omega arith))
