@@ -3,7 +3,7 @@ use Rattle.std.proofs.Common.{◌≡◌, ℕ, ◌+◌, ◌<◌, ◌≤◌, Bool,
 use Rattle.std.proofs.lemmas.List.{append-nil, length-append}
 use Rattle.std.proofs.lemmas.Bool.{not_from_true}
 use Rattle.refusal.specs.declared.Refusal.{Refusal}
-use Rattle.refusal.specs.declared.Refusal.TheVariants.{Shape}
+use Rattle.refusal.specs.declared.Refusal.TheVariants.{Shape, Depth, Stage}
 use Rattle.memory.proofs.Laying.{length-laid}
 use Rattle.model.specs.declared.place.Place.TheVariants.{Element, Content}
 use Rattle.model.specs.declared.frame.Frame.{Frame}
@@ -13,8 +13,9 @@ use Rattle.model.specs.Marks.{bytes_of_mark, flatten}
 use Rattle.model.specs.Model.{Level, Row, Outer, element, content, State, between, inside, stack, start}
 use Rattle.model.specs.Step.{new_level}
 use Rattle.model.specs.Layout.{stage, below, open_tag, tag_end, frames as frames_of, record_frame, outer_frames, row_frames}
+use Rattle.model.specs.Frames.{new_frame}
 use Rattle.model.specs.Table.{verdict, next, name_brought, takes_frame, value_opens}
-use Rattle.engine.specs.Memory.{Mem, Safe, name_at, name_put, pushed, appended}
+use Rattle.engine.specs.Memory.{Buf, Mem, Safe, Put, with_stage, name_put, pushed, appended}
 use Rattle.engine.specs.Lays.{Front, Holds, Lays, Beyond, setting, Told, Does}
 use Rattle.engine.proofs.Appending.{appended-++}
 use Rattle.engine.proofs.Fronts.{front_length, front_as, front_grown, front_push, past_same, past_grown, past_set}
@@ -22,22 +23,12 @@ use Rattle.engine.proofs.Telling.{Clear, told_shape, told_depth, told_stage, tol
 use Rattle.engine.proofs.Spots.{on_element, on_content}
 use Rattle.rows.specs.Pieces.{lead_of, name_of}
 use Rattle.rows.proofs.Tagging.{lead_is_start, name_is}
-use Rattle.records.specs.Names.{Named, Roomy, new_frame, begun, opened_record, tag_start, RecordValue}
-use Rattle.records.proofs.Naming.{Names, names_clear, names_fit, holds_name}
+use Rattle.records.specs.Names.{Named, begun, RecordValue}
+use Rattle.records.proofs.Naming.{Names, names_clear, names_fit, holds_name, content_misnamed}
 
--- the `<`, the name and the frame, by what each step of the code says
-pub opened_is : (w a b p v : Mem) (f : Frame) (from : ℕ) → w.stage.used + (length (lead_of w) + length (name_of w from)) ≤ length w.stage.all → a ≡ appended (lead_of w) w → b ≡ appended (name_at a from w.names.used) a → f ≡ new_frame b.stage.used w.names.used from → p ≡ pushed f b → v ≡ begun p → v ≡ opened_record (tag_start w from) from w
-opened_is w a b p v f from fits x y e z is =
-    let both : b ≡ appended (tag_start w from) w = y ∙ ap (λ k. appended (name_at k from w.names.used) k) x ∙ appended-++ w (lead_of w) (name_of w from) fits in
-    is ∙ ap begun (z ∙ ap (λ g. pushed g b) e) ∙ ap (λ k. begun (pushed (new_frame k.stage.used w.names.used from) k)) both
-
--- a name more leaves all numbers safe
-pub safe_named : (w x : Mem) (n : List ℕ) → x ≡ name_put n w → w.names.used + length n ≤ length w.names.all → Safe w → Safe x
-safe_named w x n e fits s =
-    let size = length-laid w.names.all n w.names.used fits in
-    let more : Safe (name_put n w) =
-    record { stage = s.stage; names = omega (arith, size, fits); frames = s.frames; stage_size = s.stage_size; names_size = omega (arith, size, s.names_size); frames_size = s.frames_size; records = s.records; indent = s.indent } in
-    subst Safe (sym e) more
+-- the bytes of a tag of this name that opens
+abbrev pub tag_start : Mem → List ℕ → List ℕ
+tag_start w n = lead_of w ++ n
 
 -- the record in which the new one opens
 abbrev pub around : List Row → Level → List Outer → List Outer
@@ -49,47 +40,38 @@ regroup a b c d e = simp (append_assoc, append-nil)
 same_new : (t s k j a b : ℕ) → t ≡ s → k ≡ j → a ≡ b → new_frame t k a ≡ new_frame s j b
 same_new t s k j a b p q r = cc
 
-module _ (u n : List ℕ) (rs : List Row) (l : Level) (ls : List Outer) (w : Mem) (from : ℕ) (d : from ≡ length u) (h : Holds (inside (element u n) rs l ls) w) where
-  named : name_of w from ≡ n
-  named = name_is u n rs l ls w from d h
-
-  start_is : tag_start w from ≡ bytes_of_mark w.indentation (start (around rs l ls)) ++ n
-  start_is = ap (λ z. z ++ name_of w from) (lead_is_start (element u n) rs l ls w refl h) ∙ ap (λ z. bytes_of_mark w.indentation (start (around rs l ls)) ++ z) named
-
-  stage_more : stage w.indentation (inside (element u n) rs l ls) ++ tag_start w from ≡ stage w.indentation (between (new_level u n) (around rs l ls))
+-- the tag's start behind the stage of a memory that holds the name that the record takes
+module _ (u n : List ℕ) (rs : List Row) (l : Level) (ls : List Outer) (w : Mem) (h : Holds (inside (element u n) rs l ls) w) where
+  stage_more : stage w.indentation (inside (element u n) rs l ls) ++ tag_start w n ≡ stage w.indentation (between (new_level u n) (around rs l ls))
   stage_more =
       let i = w.indentation in
-      ap (λ z. stage i (inside (element u n) rs l ls) ++ z) start_is ∙ regroup (below i ls) (open_tag i l ls) (flatten i l.body.kids) (bytes_of_mark i (start (around rs l ls))) n
-
-  length-start : length (tag_start w from) ≡ length (lead_of w) + length n
-  length-start = length-append (lead_of w) (name_of w from) ∙ ap (λ z. length (lead_of w) + length z) named
+      let m = bytes_of_mark i (start (around rs l ls)) in
+      ap (λ z. stage i (inside (element u n) rs l ls) ++ (z ++ n)) (lead_is_start (element u n) rs l ls w refl h) ∙ regroup (below i ls) (open_tag i l ls) (flatten i l.body.kids) m n
 
   -- how long the stage then is
-  stage_opened : length (stage w.indentation (between (new_level u n) (around rs l ls))) ≡ w.stage.used + (length (lead_of w) + length n)
+  stage_opened : length (stage w.indentation (between (new_level u n) (around rs l ls))) ≡ w.stage.used + length (tag_start w n)
   stage_opened =
-      let i = w.indentation in
-      omega (arith, ap length stage_more, length-append (stage i (inside (element u n) rs l ls)) (tag_start w from), front_length w.stage (stage i (inside (element u n) rs l ls)) h.stage, length-start)
+      let before = stage w.indentation (inside (element u n) rs l ls) in
+      omega (arith, ap length stage_more, length-append before (tag_start w n), front_length w.stage before h.stage)
 
-  start_fits : w.stage.used + (length (lead_of w) + length n) ≤ length w.stage.all → w.stage.used + length (tag_start w from) ≤ length w.stage.all
-  start_fits f = omega (arith, f, length-start)
-
-  lays_record : w.frames.used < length w.frames.all → w.stage.used + (length (lead_of w) + length n) ≤ length w.stage.all → Lays (between (new_level u n) (around rs l ls)) (opened_record (tag_start w from) from w)
-  lays_record free fits =
+  lays_record : (from : ℕ) → from ≡ length u → w.frames.used < length w.frames.all → w.stage.used + length (tag_start w n) ≤ length w.stage.all → Lays (between (new_level u n) (around rs l ls)) (begun from (appended (tag_start w n) w))
+  lays_record from d free fits =
       let i = w.indentation in
-      let bs = tag_start w from in
-      let xs = outer_frames i ls ++ (record_frame i l ls [] ∷ row_frames rs) in
+      let bs = tag_start w n in
+      let before = stage i (inside (element u n) rs l ls) in
       let m = between (new_level u n) (around rs l ls) in
-      let tag : w.stage.used + length (tag_start w from) ≡ length (tag_end w.indentation (new_level u n) (around rs l ls) []) =
-      omega (arith, length-start, stage_opened, length-append (tag_end i (new_level u n) (around rs l ls) []) []) in
-      let frame = same_new (w.stage.used + length bs) (length (tag_end i (new_level u n) (around rs l ls) [])) w.names.used (length (u ++ n)) from (length u) tag (front_length w.names (u ++ n) h.names) d in
+      let xs = outer_frames i ls ++ (record_frame i l ls [] ∷ row_frames rs) in
       let f = new_frame (w.stage.used + length bs) w.names.used from in
-      let before = ap (λ z. outer_frames i ls ++ (record_frame i l ls [] ∷ z)) (append-nil (row_frames rs)) in
+      let tag : w.stage.used + length (tag_start w n) ≡ length (tag_end w.indentation (new_level u n) (around rs l ls) []) =
+      omega (arith, stage_opened, length-append (tag_end i (new_level u n) (around rs l ls) []) []) in
+      let frame = same_new (w.stage.used + length bs) (length (tag_end i (new_level u n) (around rs l ls) [])) w.names.used (length (u ++ n)) from (length u) tag (front_length w.names (u ++ n) h.names) d in
+      let under = ap (λ z. outer_frames i ls ++ (record_frame i l ls [] ∷ z)) (append-nil (row_frames rs)) in
       record {
         holds = record {
-          stage = front_as (appended bs w).stage (stage i (inside (element u n) rs l ls) ++ bs) (stage i m) stage_more (front_grown w.stage (stage i (inside (element u n) rs l ls)) bs (start_fits fits) h.stage);
+          stage = front_as (appended bs w).stage (before ++ bs) (stage i m) stage_more (front_grown w.stage before bs fits h.stage);
           names = h.names;
           frames = front_as (pushed f w).frames (xs ++ (f ∷ [])) (xs ++ (record_frame i (new_level u n) (around rs l ls) [] ∷ [])) (ap (λ z. xs ++ (z ∷ [])) frame)
-              (front_push w.frames xs f free (front_as w.frames (frames_of i (inside (element u n) rs l ls)) xs before h.frames));
+              (front_push w.frames xs f free (front_as w.frames (frames_of i (inside (element u n) rs l ls)) xs under h.frames));
           records = omega (arith, h.records);
           wordy = refl;
           fit = h.fit;
@@ -97,13 +79,7 @@ module _ (u n : List ℕ) (rs : List Row) (l : Level) (ls : List Outer) (w : Mem
         place = refl;
       }
 
--- a record opens by a call that has passed the first six rows: no frame is free, or no room on the stage
-roomy_refused : (room : ℕ) (c : Call) (m : State) (w : Mem) (k : ℕ) (e : Refusal) → Clear c m → Safe w → Holds m w → w.names.used + length (name_brought c m) ≤ length w.names.all → takes_frame c ≡ true → length (stage w.indentation (next w.form c m)) ≡ w.stage.used + (length (lead_of w) + k) → Roomy (Err e) k w → Told (verdict (setting w) room c m) (Err e) w w
-roomy_refused room c m w k e clear safe h n t size (inl a) = subst (λ x. Told (verdict (setting w) room c m) (Err x) w w) (sym a.0) (told_depth w room c m clear safe h n t a.1)
-roomy_refused room c m w k e clear safe h n t size (inr b) =
-    subst (λ x. Told (verdict (setting w) room c m) (Err x) w w) (sym b.0) (told_stage w room c m clear safe h n (depth_is_free w room c m safe h.frames b.1) (omega (arith, size, b.2)))
-
-beyond_record : (w : Mem) (bs : List ℕ) (from : ℕ) → w.stage.used + length bs ≤ length w.stage.all → Beyond w (opened_record bs from w)
+beyond_record : (w : Mem) (bs : List ℕ) (from : ℕ) → w.stage.used + length bs ≤ length w.stage.all → Beyond w (begun from (appended bs w))
 beyond_record w bs from fits =
     record {
       stage = past_grown w.stage bs fits;
@@ -113,7 +89,7 @@ beyond_record w bs from fits =
       indentation = refl;
     }
 
-beyond_named : (w : Mem) (n bs : List ℕ) (from : ℕ) → w.names.used + length n ≤ length w.names.all → w.stage.used + length bs ≤ length w.stage.all → Beyond w (opened_record bs from (name_put n w))
+beyond_named : (w : Mem) (n bs : List ℕ) (from : ℕ) → w.names.used + length n ≤ length w.names.all → w.stage.used + length bs ≤ length w.stage.all → Beyond w (begun from (appended bs (name_put n w)))
 beyond_named w n bs from room fits =
     record {
       stage = past_grown w.stage bs fits;
@@ -128,26 +104,35 @@ module _ (room : ℕ) (w : Mem) (from : ℕ) (q : List ℕ) (safe : Safe w) (at 
   clear_there : (u n : List ℕ) (rs : List Row) (l : Level) (ls : List Outer) → Clear (call_value (val_record q)) (inside (element u n) rs l ls)
   clear_there u n rs l ls = record { order = refl; bytes = not_from_true (utf8 q) ok; shape = refl; text = refl; name = refl }
 
-  name_long : (u n : List ℕ) (k : ℕ) → from ≡ length u → Front w.names (u ++ n) → k + from ≡ w.names.used → length n ≡ k
-  name_long u n k d f e = omega (arith, d, e, front_length w.names (u ++ n) f, length-append u n)
+  -- no frame is free
+  pub element_record_deep : length w.frames.all ≤ w.frames.used → Does (call_value (val_record q)) room (Err Depth) w w
+  element_record_deep full m lay = on_element (λ x. Told (verdict (setting w) room (call_value (val_record q)) x) (Err Depth) w w) w from m lay at (λ u n rs l ls d z.
+      told_depth w room (call_value (val_record q)) (inside (element u n) rs l ls) (clear_there u n rs l ls) safe z.holds (omega (arith, z.holds.names.fits)) refl full)
 
-  pub element_record_refused : (k : ℕ) (e : Refusal) → k + from ≡ w.names.used → Roomy (Err e) k w → Does (call_value (val_record q)) room (Err e) w w
-  element_record_refused k e s y m lay = on_element (λ x. Told (verdict (setting w) room (call_value (val_record q)) x) (Err e) w w) w from m lay at (λ u n rs l ls d z.
-      let h = z.holds in
-      let long = name_long u n k d h.names s in
-      let size = stage_opened u n rs l ls w from d h in
-      roomy_refused room (call_value (val_record q)) (inside (element u n) rs l ls) w k e (clear_there u n rs l ls) safe h (omega (arith, h.names.fits)) refl (omega (arith, size, long)) y)
+  module _ (free : w.frames.used < length w.frames.all) where
+    -- its tag does not fit
+    pub element_record_full : (e : Refusal) (b : Buf ℕ) → Put (Err e) (tag_start w (name_of w from)) w.stage b → Does (call_value (val_record q)) room (Err e) w (with_stage w b)
+    element_record_full e b y m lay = on_element (λ x. Told (verdict (setting w) room (call_value (val_record q)) x) (Err e) w (with_stage w b)) w from m lay at (λ u n rs l ls d z.
+        let c = call_value (val_record q) in
+        let here = inside (element u n) rs l ls in
+        let h = z.holds in
+        let size : length (stage w.indentation (next w.form c here)) ≡ w.stage.used + length (tag_start w (name_of w from)) =
+        stage_opened u n rs l ls w h ∙ ap (λ x. w.stage.used + length (tag_start w x)) (sym (name_is u n rs l ls w from d h)) in
+        subst (λ x. Told (verdict (setting w) room c here) (Err e) w (with_stage w x)) (sym y.1)
+        (subst (λ x. Told (verdict (setting w) room c here) (Err x) w w) (sym y.0)
+        (told_stage w room c here (clear_there u n rs l ls) safe h (omega (arith, h.names.fits)) (depth_is_free w room c here safe h.frames free) (omega (arith, size, y.2)))))
 
-  pub element_record_ok : (k : ℕ) (v : Mem) → k + from ≡ w.names.used → Roomy (Ok tt) k w → v ≡ opened_record (tag_start w from) from w → Does (call_value (val_record q)) room (Ok tt) w v
-  element_record_ok k v s y is m lay = on_element (λ x. Told (verdict (setting w) room (call_value (val_record q)) x) (Ok tt) w v) w from m lay at (λ u n rs l ls d z.
-      let c = call_value (val_record q) in
-      let here = inside (element u n) rs l ls in
-      let h = z.holds in
-      let long = name_long u n k d h.names s in
-      let fits : w.stage.used + (length (lead_of w) + length n) ≤ length w.stage.all = omega (arith, long, y.1) in
-      told_ok w room c here v (clear_there u n rs l ls) safe h (omega (arith, h.names.fits)) (depth_is_free w room c here safe h.frames y.0) (sink_unasked w room c here refl)
-      (subst (λ x. Lays (between (new_level u n) (around rs l ls)) x) (sym is) (lays_record u n rs l ls w from d h y.0 fits))
-      (subst (λ x. Beyond w x) (sym is) (beyond_record w (tag_start w from) from (start_fits u n rs l ls w from d h fits))))
+    pub element_record_ok : (b : Buf ℕ) (v : Mem) → Put (Ok tt) (tag_start w (name_of w from)) w.stage b → v ≡ begun from (with_stage w b) → Does (call_value (val_record q)) room (Ok tt) w v
+    element_record_ok b v y is m lay = on_element (λ x. Told (verdict (setting w) room (call_value (val_record q)) x) (Ok tt) w v) w from m lay at (λ u n rs l ls d z.
+        let c = call_value (val_record q) in
+        let here = inside (element u n) rs l ls in
+        let h = z.holds in
+        let named = name_is u n rs l ls w from d h in
+        let fits = subst (λ x. w.stage.used + length (tag_start w x) ≤ length w.stage.all) named y.0 in
+        let opens : v ≡ begun from (appended (tag_start w n) w) = is ∙ ap (λ x. begun from (with_stage w x)) y.1 ∙ ap (λ x. begun from (appended (tag_start w x) w)) named in
+        told_ok w room c here v (clear_there u n rs l ls) safe h (omega (arith, h.names.fits)) (depth_is_free w room c here safe h.frames free) (sink_unasked w room c here refl)
+        (subst (λ x. Lays (between (new_level u n) (around rs l ls)) x) (sym opens) (lays_record u n rs l ls w h from d free fits))
+        (subst (λ x. Beyond w x) (sym opens) (beyond_record w (tag_start w n) from fits)))
 
 -- what both calls at a content place share
 pub record Enters (c : Value) (p : Bool) (n : List ℕ) (w : Mem) (rs : List Row) (l : Level) (ls : List Outer) : Type 0 where
@@ -155,7 +140,7 @@ pub record Enters (c : Value) (p : Bool) (n : List ℕ) (w : Mem) (rs : List Row
   pub takes : value_opens c ≡ true
   pub goes : next w.form (call_value c) (inside (content p) rs l ls) ≡ between (new_level (stack rs l) n) (around rs l ls)
 
-pub enters : (c : Value) (p : Bool) (n : List ℕ) (w : Mem) → utf8 n ≡ true → RecordValue c n → (rs : List Row) (l : Level) (ls : List Outer) → Enters c p n w rs l ls
+enters : (c : Value) (p : Bool) (n : List ℕ) (w : Mem) → utf8 n ≡ true → RecordValue c n → (rs : List Row) (l : Level) (ls : List Outer) → Enters c p n w rs l ls
 enters c p n w u (inl e) rs l ls =
     subst (λ x. Enters x p n w rs l ls) (sym e) (record { names = record { order = refl; bytes = not_from_true (utf8 n) u; shape = refl; text = refl; fault = refl; brought = refl; handed = refl }; takes = refl; goes = refl })
 enters c p n w u (inr e) rs l ls =
@@ -168,27 +153,43 @@ module _ (room : ℕ) (w : Mem) (n : List ℕ) (p : Bool) (safe : Safe w) (at : 
   variant_record_shape t m lay = on_content (λ x. Told (verdict (setting w) room (call_value (val_variant_record n)) x) (Err Shape) w w) w p m lay at (λ rs l ls z.
       told_shape w room (call_value (val_variant_record n)) (inside (content p) rs l ls) refl (not_from_true (utf8 n) u) t)
 
-  module _ (c : Value) (k : (rs : List Row) (l : Level) (ls : List Outer) → Enters c p n w rs l ls) (y : Named (Ok tt) n w) where
-    size_there : (rs : List Row) (l : Level) (ls : List Outer) → Holds (inside (content p) rs l ls) w → length (stage w.indentation (next w.form (call_value c) (inside (content p) rs l ls))) ≡ w.stage.used + (length (lead_of w) + length n)
-    size_there rs l ls h =
-        ap (λ x. length (stage w.indentation x)) (k rs l ls).goes ∙ stage_opened (stack rs l) n rs l ls (name_put n w) w.names.used (front_length w.names (stack rs l) h.names) (holds_name p rs l ls w n y.1 h)
+  module _ (c : Value) (is : RecordValue c n) where
+    -- it is no name, or there is no room for it
+    pub enter_misnamed : (e : Refusal) → Named (Err e) n w → Does (call_value c) room (Err e) w w
+    enter_misnamed e = content_misnamed room c n w p e (λ rs l ls. (enters c p n w u is rs l ls).names) safe at
 
-    pub enter_refused : (e : Refusal) → Roomy (Err e) (length n) w → Does (call_value c) room (Err e) w w
-    enter_refused e r m lay = on_content (λ x. Told (verdict (setting w) room (call_value c) x) (Err e) w w) w p m lay at (λ rs l ls z.
-        let here = inside (content p) rs l ls in
-        let h = z.holds in
-        let ns = (k rs l ls).names in
-        roomy_refused room (call_value c) here w (length n) e (names_clear room (call_value c) here n w ns safe h y.0) safe h (names_fit room (call_value c) here n w ns safe h y.1) (k rs l ls).takes (size_there rs l ls h) r)
+    module _ (y : Named (Ok tt) n w) where
+      -- no frame is free
+      pub enter_deep : length w.frames.all ≤ w.frames.used → Does (call_value c) room (Err Depth) w w
+      enter_deep full m lay = on_content (λ x. Told (verdict (setting w) room (call_value c) x) (Err Depth) w w) w p m lay at (λ rs l ls z.
+          let here = inside (content p) rs l ls in
+          let k = enters c p n w u is rs l ls in
+          let h = z.holds in
+          told_depth w room (call_value c) here (names_clear room (call_value c) here n w k.names safe h y.0) safe h (names_fit room (call_value c) here n w k.names safe h y.1) k.takes full)
 
-    pub enter_ok : (v : Mem) → Roomy (Ok tt) (length n) w → v ≡ opened_record (tag_start (name_put n w) w.names.used) w.names.used (name_put n w) → Does (call_value c) room (Ok tt) w v
-    enter_ok v r is m lay = on_content (λ x. Told (verdict (setting w) room (call_value c) x) (Ok tt) w v) w p m lay at (λ rs l ls z.
-        let here = inside (content p) rs l ls in
-        let h = z.holds in
-        let ns = (k rs l ls).names in
-        let s = stack rs l in
-        let d = front_length w.names s h.names in
-        let more = holds_name p rs l ls w n y.1 h in
-        let laid = lays_record s n rs l ls (name_put n w) w.names.used d more r.0 r.1 in
-        told_ok w room (call_value c) here v (names_clear room (call_value c) here n w ns safe h y.0) safe h (names_fit room (call_value c) here n w ns safe h y.1) (depth_is_free w room (call_value c) here safe h.frames r.0) (sink_unasked w room (call_value c) here refl)
-        (subst (λ x. Lays x v) (sym (k rs l ls).goes) (subst (λ x. Lays (between (new_level s n) (around rs l ls)) x) (sym is) laid))
-        (subst (λ x. Beyond w x) (sym is) (beyond_named w n (tag_start (name_put n w) w.names.used) w.names.used y.1 (start_fits s n rs l ls (name_put n w) w.names.used d more r.1))))
+      module _ (free : w.frames.used < length w.frames.all) where
+        -- its tag does not fit
+        pub enter_full : (e : Refusal) (b : Buf ℕ) → Put (Err e) (tag_start w n) w.stage b → Does (call_value c) room (Err e) w (with_stage w b)
+        enter_full e b z m lay = on_content (λ x. Told (verdict (setting w) room (call_value c) x) (Err e) w (with_stage w b)) w p m lay at (λ rs l ls a.
+            let here = inside (content p) rs l ls in
+            let k = enters c p n w u is rs l ls in
+            let h = a.holds in
+            let size : length (stage w.indentation (next w.form (call_value c) here)) ≡ w.stage.used + length (tag_start w n) =
+            ap (λ x. length (stage w.indentation x)) k.goes ∙ stage_opened (stack rs l) n rs l ls (name_put n w) (holds_name p rs l ls w n y.1 h) in
+            subst (λ x. Told (verdict (setting w) room (call_value c) here) (Err e) w (with_stage w x)) (sym z.1)
+            (subst (λ x. Told (verdict (setting w) room (call_value c) here) (Err x) w w) (sym z.0)
+            (told_stage w room (call_value c) here (names_clear room (call_value c) here n w k.names safe h y.0) safe h (names_fit room (call_value c) here n w k.names safe h y.1)
+            (depth_is_free w room (call_value c) here safe h.frames free) (omega (arith, size, z.2)))))
+
+        pub enter_ok : (b : Buf ℕ) (v : Mem) → Put (Ok tt) (tag_start w n) w.stage b → v ≡ begun w.names.used (name_put n (with_stage w b)) → Does (call_value c) room (Ok tt) w v
+        enter_ok b v z opens m lay = on_content (λ x. Told (verdict (setting w) room (call_value c) x) (Ok tt) w v) w p m lay at (λ rs l ls a.
+            let here = inside (content p) rs l ls in
+            let k = enters c p n w u is rs l ls in
+            let h = a.holds in
+            let s = stack rs l in
+            let v_is : v ≡ begun w.names.used (appended (tag_start w n) (name_put n w)) = opens ∙ ap (λ x. begun w.names.used (name_put n (with_stage w x))) z.1 in
+            let laid = lays_record s n rs l ls (name_put n w) (holds_name p rs l ls w n y.1 h) w.names.used (front_length w.names s h.names) free z.0 in
+            told_ok w room (call_value c) here v (names_clear room (call_value c) here n w k.names safe h y.0) safe h (names_fit room (call_value c) here n w k.names safe h y.1)
+            (depth_is_free w room (call_value c) here safe h.frames free) (sink_unasked w room (call_value c) here refl)
+            (subst (λ x. Lays x v) (sym k.goes) (subst (λ x. Lays (between (new_level s n) (around rs l ls)) x) (sym v_is) laid))
+            (subst (λ x. Beyond w x) (sym v_is) (beyond_named w n (tag_start w n) w.names.used y.1 z.0)))

@@ -1,17 +1,17 @@
 -- Values at a content place that bring a name: wrapped values and rows of variants. Assumes nothing.
 use Rattle.std.proofs.Common.{◌≡◌, ℕ, ◌+◌, ◌<◌, ◌≤◌, Bool, true, false, cond, not, List, [], ◌∷◌, ◌++◌, length, Some, None, Ok, Err, Result, sym, refl, ap, ◌∙◌, subst, inl, inr, arith}
-use Rattle.std.proofs.lemmas.Bool.{not_from_true, and_left, and_right}
+use Rattle.std.proofs.lemmas.Bool.{not_from_true, and_from, and_left, and_right}
 use Rattle.refusal.specs.declared.Refusal.{Refusal}
-use Rattle.refusal.specs.declared.Refusal.TheVariants.{Depth}
+use Rattle.refusal.specs.declared.Refusal.TheVariants.{Bytes as BytesAt, Depth}
 use Rattle.refusal.specs.Refusals.{offset}
 use Rattle.xml.specs.Names.{name_fault}
 use Rattle.model.specs.declared.place.Place.TheVariants.{Element, Content, Simple, TextItem}
-use Rattle.model.specs.declared.frame.Frame.{Frame}
-use Rattle.model.specs.Strings.{utf8}
+use Rattle.model.specs.Strings.{utf8, whole}
 use Rattle.model.specs.Calls.{Call, call_value, Value, val_wrapped, val_variant_row, is_text_name}
 use Rattle.model.specs.Model.{Level, Row, named_row, Outer, element, content, simple, words, State, inside, stack, flag}
 use Rattle.model.specs.Step.{on, opens_row, moved_if}
 use Rattle.model.specs.Layout.{list_frame, row_frame}
+use Rattle.model.specs.Frames.{named_frame}
 use Rattle.model.specs.Grounds.{out_of_order, ill_formed, misshapen, runs_on, misnamed, value_string, no_content, is_text, content_fault}
 use Rattle.model.specs.Table.{verdict, next, or_stay, name_brought, handed, content_name}
 use Rattle.engine.specs.Memory.{Mem, Safe, pushed, placed, name_put, top_frame}
@@ -20,11 +20,12 @@ use Rattle.engine.proofs.Fronts.{front_length, front_grown, begins_self, begins_
 use Rattle.engine.proofs.Telling.{Clear, told_name, told_stack, told_depth, told_ok, told_small, depth_is_free, depth_unasked, sink_unasked}
 use Rattle.engine.proofs.Spots.{on_content}
 use Rattle.engine.proofs.Tops.{top_flag}
-use Rattle.nests.specs.Frames.{named_frame, Pushes}
+use Rattle.nests.specs.Frames.{Pushes}
 use Rattle.nests.proofs.Leaving.{nested_rest}
 use Rattle.nests.proofs.Pushing.{lays_placed, holds_row, holds_list, beyond_push}
 use Rattle.nests.proofs.Rowing.{pushes_told}
-use Rattle.records.specs.Names.{Named}
+use Rattle.rows.proofs.Wording.{content_ill_formed, content_run_on}
+use Rattle.records.specs.Names.{Named, TextAnnounced}
 
 -- a call that brings this name to the name stack, and has passed the first four rows
 pub record Names (c : Call) (m : State) (n : List ℕ) (w : Mem) : Type 0 where
@@ -80,6 +81,13 @@ wrapped_announces n = record { string = refl; shape = refl; text = refl; fault =
 pub row_announces : (n : List ℕ) → Announces (val_variant_row n) n
 row_announces n = record { string = refl; shape = refl; text = refl; fault = refl; name = refl }
 
+-- its bytes are not well-formed, or it is a text where none may stand
+pub announced_refused : (c : Value) (n : List ℕ) (p : Bool) (room : ℕ) (w : Mem) (e : Refusal) → Announces c n → w.place ≡ Content p → TextAnnounced (Err e) n p → Does (call_value c) room (Err e) w w
+announced_refused c n p room w e a at (inl bad) = content_ill_formed c room w e (ap utf8 a.string ∙ bad.0) (bad.1 ∙ ap (λ s. BytesAt (whole s)) (sym a.string)) p at
+announced_refused c n p room w e a at (inr run) =
+    subst (λ x. Does (call_value c) room (Err x) w w) (sym run.0)
+    (content_run_on c room w p (ap utf8 a.string ∙ run.1) a.shape (and_from (is_text c) (not p) (a.text ∙ run.2) (ap not run.3)) at)
+
 module _ (c : Value) (n : List ℕ) (p : Bool) (w : Mem) (a : Announces c n) (u : utf8 n ≡ true) (rs : List Row) (l : Level) (ls : List Outer) where
   fine : ill_formed (call_value c) ≡ false
   fine = not_from_true (utf8 (value_string c)) (ap utf8 a.string ∙ u)
@@ -120,12 +128,12 @@ module _ (room : ℕ) (w v : Mem) (n : List ℕ) (p : Bool) (safe : Safe w) (at 
       (subst (λ x. Lays x v) (sym goes) (subst (λ y. Lays (inside simple rs l ls) y) (sym is) there)) (subst (λ y. Beyond w y) (sym is) same))
 
   -- a list, which is one text
-  pub variants_list : (r : Result (Unit {0}) Refusal) (f : Frame) → is_text_name n ≡ true → p ≡ true → f ≡ list_frame → Pushes r f (TextItem false) w v → Does (call_value (val_variant_row n)) room r w v
-  variants_list r f t q e y m lay = on_content (λ x. Told (verdict (setting w) room (call_value (val_variant_row n)) x) r w v) w p m lay at (λ rs l ls z.
+  pub variants_list : (r : Result (Unit {0}) Refusal) → is_text_name n ≡ true → p ≡ true → Pushes r list_frame (TextItem false) w v → Does (call_value (val_variant_row n)) room r w v
+  variants_list r t q y m lay = on_content (λ x. Told (verdict (setting w) room (call_value (val_variant_row n)) x) r w v) w p m lay at (λ rs l ls z.
       let c = call_value (val_variant_row n) in
       let goes : next w.form c (inside (content p) rs l ls) ≡ inside (words false) rs l ls = ap (λ b. or_stay (inside (content p) rs l ls) (moved_if rs l ls (Some (cond b (on (words false) l.body) (opens_row (named_row (stack rs l) n (flag rs l.body))))))) t in
-      pushes_told room c (inside (content p) rs l ls) w v r f list_frame (TextItem false) (TextItem false)
-      (record { clear = announced_text (val_variant_row n) n p w (row_announces n) u rs l ls t q; brought = no_name (val_variant_row n) n p w (row_announces n) u rs l ls t; takes = refl; handed = refl }) safe z.holds e refl
+      pushes_told room c (inside (content p) rs l ls) w v r list_frame list_frame (TextItem false) (TextItem false)
+      (record { clear = announced_text (val_variant_row n) n p w (row_announces n) u rs l ls t q; brought = no_name (val_variant_row n) n p w (row_announces n) u rs l ls t; takes = refl; handed = refl }) safe z.holds refl refl
       (λ free. subst (λ x. Lays x (placed (TextItem false) (pushed list_frame w))) (sym goes) (lays_placed (inside (words false) rs l ls) (TextItem false) (pushed list_frame w) refl (holds_list (content p) rs l ls w refl refl free z.holds))) y)
 
   module _ (t : is_text_name n ≡ false) where
@@ -153,8 +161,8 @@ module _ (room : ℕ) (w v : Mem) (n : List ℕ) (p : Bool) (safe : Safe w) (at 
         told_depth w room c here (names_clear room c here n w k safe h y.0) safe h (names_fit room c here n w k safe h y.1) refl full)
 
     -- a row of elements
-    pub variants_ok : (g : Bool) (x : Mem) → Named (Ok tt) n w → w.frames.used < length w.frames.all → g ≡ (top_frame w).flag → x ≡ name_put n w → v ≡ placed (Element w.names.used) (pushed (named_frame g x.names.used w.names.used) x) → Does (call_value (val_variant_row n)) room (Ok tt) w v
-    variants_ok g x y free e named is m lay = on_content (λ q. Told (verdict (setting w) room (call_value (val_variant_row n)) q) (Ok tt) w v) w p m lay at (λ rs l ls z.
+    pub variants_ok : Named (Ok tt) n w → w.frames.used < length w.frames.all → v ≡ placed (Element w.names.used) (pushed (named_frame (top_frame w).flag (w.names.used + length n) w.names.used) (name_put n w)) → Does (call_value (val_variant_row n)) room (Ok tt) w v
+    variants_ok y free is m lay = on_content (λ q. Told (verdict (setting w) room (call_value (val_variant_row n)) q) (Ok tt) w v) w p m lay at (λ rs l ls z.
         let c = call_value (val_variant_row n) in
         let here = inside (content p) rs l ls in
         let k = announced_name (val_variant_row n) n p w (row_announces n) u rs l ls t in
@@ -165,9 +173,8 @@ module _ (room : ℕ) (w v : Mem) (n : List ℕ) (p : Bool) (safe : Safe w) (at 
         let goes : next w.form c (inside (content p) rs l ls) ≡ inside (element (stack rs l) n) (named_row (stack rs l) n (flag rs l.body) ∷ rs) l ls = ap (λ b. or_stay (inside (content p) rs l ls) (moved_if rs l ls (Some (cond b (on (words false) l.body) (opens_row (named_row (stack rs l) n (flag rs l.body))))))) t in
         let more = holds_name p rs l ls w n y.1 h in
         let used = front_length w.names s h.names in
-        let frame = same_named g f (w.names.used + length n) (length (s ++ n)) w.names.used (length s) (e ∙ top_flag (content p) rs l ls w refl h) (front_length (name_put n w).names (s ++ n) more.names) used in
+        let frame = same_named (top_frame w).flag f (w.names.used + length n) (length (s ++ n)) w.names.used (length s) (top_flag (content p) rs l ls w refl h) (front_length (name_put n w).names (s ++ n) more.names) used in
         let laid = lays_placed there (Element w.names.used) (pushed (row_frame (named_row s n f)) (name_put n w)) (ap Element used) (holds_row (element s n) (element s n) (named_row s n f) rs l ls (name_put n w) (name_put n w).names refl refl free more more.names (begins_self (s ++ n)) more.fit) in
-        let whole : v ≡ placed (Element w.names.used) (pushed (row_frame (named_row (stack rs l) n (flag rs l.body))) (name_put n w)) =
-        is ∙ ap (λ j. placed (Element w.names.used) (pushed (named_frame g j.names.used w.names.used) j)) named ∙ ap (λ j. placed (Element w.names.used) (pushed j (name_put n w))) frame in
+        let whole_is : v ≡ placed (Element w.names.used) (pushed (row_frame (named_row (stack rs l) n (flag rs l.body))) (name_put n w)) = is ∙ ap (λ j. placed (Element w.names.used) (pushed j (name_put n w))) frame in
         told_ok w room c here v (names_clear room c here n w k safe h y.0) safe h (names_fit room c here n w k safe h y.1) (depth_is_free w room c here safe h.frames free) (sink_unasked w room c here refl)
-        (subst (λ j. Lays j v) (sym goes) (subst (λ j. Lays there j) (sym whole) laid)) (subst (λ j. Beyond w j) (sym whole) (beyond_push w (row_frame (named_row s n f)) (Element w.names.used) n y.1)))
+        (subst (λ j. Lays j v) (sym goes) (subst (λ j. Lays there j) (sym whole_is) laid)) (subst (λ j. Beyond w j) (sym whole_is) (beyond_push w (row_frame (named_row s n f)) (Element w.names.used) n y.1)))

@@ -26,26 +26,6 @@ use Rattle.rows.proofs.Tagging.{empty_is}
 use Rattle.rows.proofs.Told.{spot_told}
 use Rattle.rows.proofs.Wording.{content_silent}
 
--- how long the end of an empty tag is that repeats the name
-pub end_length : (f : EmptyElementHandling) (n : List ℕ) → f ≡ Expanded → length (shut f n) ≡ length n + 4
-end_length f n e = omega (arith, ap (λ g. length (shut g n)) e, length-append n (codes ">"))
-
--- three pieces, by what each step of the code says
-pub three_written : (w a b c : Mem) (r s t : List ℕ) → w.stage.used + (length r + (length s + length t)) ≤ length w.stage.all → a ≡ appended r w → b ≡ appended s a → c ≡ appended t b → c ≡ appended (r ++ (s ++ t)) w
-three_written w a b c r s t fits x y z = z ∙ ap (appended t) (y ∙ ap (appended s) x) ∙ appended_three w r s t fits
-
--- the style is as it was
-pub same_end : (w a b : Mem) (n : List ℕ) → a ≡ appended (lead_of w) w → b ≡ appended n a → shut b.form n ≡ shut w.form n
-same_end w a b n x y = ap (λ m. shut m.form n) (y ∙ ap (appended n) x)
-
--- the `<`, the name and the end of an empty tag
-pub element_written : (w a b c : Mem) (n : List ℕ) → w.stage.used + (length (lead_of w) + (length n + length (shut w.form n))) ≤ length w.stage.all → a ≡ appended (lead_of w) w → b ≡ appended n a → c ≡ appended (shut b.form n) b → c ≡ appended (empty_bytes w n) w
-element_written w a b c n fits x y z = three_written w a b c (lead_of w) n (shut w.form n) fits x y (z ∙ ap (λ s. appended s b) (same_end w a b n x y))
-
--- and the value is complete
-pub element_settled : (w x v : Mem) (bs : List ℕ) → x ≡ appended bs w → v ≡ settled element_result (worded false x) → v ≡ settled element_result (worded false (appended bs w))
-element_settled w x v bs p q = q ∙ ap (λ y. settled element_result (worded false y)) p
-
 -- what a variant does by its name
 variant_by : (f : EmptyElementHandling) (d : ℕ) (rs : List Row) (b : Body) (t : List ℕ) (ρ : Rule) (n : List ℕ) (x : Bool) → is_text_name n ≡ x → put_content f d rs b t (val_variant ρ n) ≡ Some (cond x (done Nothing b) (empty_child f d rs b n))
 variant_by f d rs b t ρ n x e = ap (λ y. Some (cond y (done Nothing b) (empty_child f d rs b n))) e

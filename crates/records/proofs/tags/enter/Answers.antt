@@ -1,44 +1,29 @@
-use Rattle.std.proofs.Common.{length, ap, ◌∙◌, arith, rules}
-use Rattle.engine.specs.Memory.{mem}
-use Rattle.rows.specs.Pieces.{lead_of}
-use Rattle.records.specs.Names.{opened_record, tag_start}
-use Rattle.records.proofs.Naming.{content_misnamed}
-use Rattle.records.proofs.Entering.{safe_named, enters, enter_refused, enter_ok}
+use Rattle.std.proofs.Common.{ap, ◌∙◌, arith}
+use Rattle.std.proofs.lemmas.Result.{err_from_is_err_and}
+use Rattle.engine.specs.Memory.{mem, buf, with_stage, name_put}
+use Rattle.records.specs.Names.{begun}
+use Rattle.records.proofs.Entering.{enter_full, enter_ok}
 use Rattle.records.proofs.tags.enter.Goals as goal
 
-pub open_record-requires : goal.open_record-requires
-open_record-requires c =
-    let w = mem c.args.core.now in
-    let x = mem c.push_name.new.self in
-    let e = c.push_name.ensures.memory in
-    let fit = c.in-Ok.ensures.named in
-    let free = c.in-Ok-record_fits.ensures.roomy in
-    let depth = ap (λ y. y.frames.used) e in
-    let frames = ap (λ y. length y.frames.all) e in
-    let named = ap (λ y. y.names.used) e in
-    let used = ap (λ y. y.stage.used) e in
-    let stage = ap (λ y. length y.stage.all) e in
-    let lead = ap (λ y. length (lead_of y)) e in
-    record { safe = (safe_named w x c.args.name.now e fit.1 (search rules), (omega arith, (omega (arith, free.0), omega arith))); room = omega (arith, free.1) }
-
-pub returns-in-Err : goal.returns-in-Err
-returns-in-Err c =
+pub returns-in_err-put : goal.returns-in_err-put
+returns-in_err-put c =
     let w = mem c.args.core.now in
     let n = c.args.name.now in
-    record { does = λ room k is. content_misnamed room k n w c.args.texts c.in-Err.refusal (λ rs l ls. (enters k c.args.texts n w (search rules) is rs l ls).names) (search rules) (search rules) c.in-Err.ensures.named }
+    let b = buf c.put.new.stage in
+    let p = err_from_is_err_and c.from_residual-in_err-put.result c.from_residual-in_err-put.ensures.1 in
+    rw (p.1, p.2)
+    (record {
+      does = λ room t k at is. enter_full room w n t c.requires.safe at c.requires.well_formed k is c.in_ok-name_fits.ensures.named (omega arith) _ b
+          (rw c.lead-lead.ensures.value at c.in_err-put.ensures.puts);
+    })
 
-pub returns-in-Err-record_fits : goal.returns-in-Err-record_fits
-returns-in-Err-record_fits c =
+pub returns : goal.returns
+returns c =
     let w = mem c.args.core.now in
     let n = c.args.name.now in
-    record { does = λ room k is. enter_refused room w n c.args.texts (search rules) (search rules) (search rules) k (enters k c.args.texts n w (search rules) is) c.in-Ok.ensures.named c.in-Err-record_fits.want c.in-Err-record_fits.ensures.roomy }
-
-pub returns-in-Ok-record_fits : goal.returns-in-Ok-record_fits
-returns-in-Ok-record_fits c =
-    let w = mem c.args.core.now in
-    let n = c.args.name.now in
-    let from = w.names.used in
+    let b = buf c.put.new.stage in
     record {
-      does = λ room k is. enter_ok room w n c.args.texts (search rules) (search rules) (search rules) k (enters k c.args.texts n w (search rules) is) c.in-Ok.ensures.named (mem c.open_record.new.core) c.in-Ok-record_fits.ensures.roomy
-          (c.open_record.ensures.memory ∙ ap (λ x. opened_record (tag_start x from) from x) c.push_name.ensures.memory);
+      does = λ room t k at is. enter_ok room w n t c.requires.safe at c.requires.well_formed k is c.in_ok-name_fits.ensures.named (omega arith) b (mem c.begin_fields.new.core)
+          (rw c.lead-lead.ensures.value at c.in_ok-put.ensures.puts)
+          (c.begin_fields.ensures.memory ∙ ap (begun c.push_name-from.result) c.push_name-from.ensures.memory ∙ ap (λ k. begun k (name_put n (with_stage w b))) c.push_name-from.ensures.start);
     }
