@@ -1,10 +1,9 @@
 -- The items of a list that is an attribute's value, and its end. Assumes nothing.
-use Rattle.std.proofs.Common.{◌≡◌, ℕ, ◌-◌, Bool, true, false, List, [], ◌∷◌, ◌++◌, length, Some, Ok, Err, codes, Result, sym, refl, ap, ◌∙◌, subst, append_assoc, arith}
+use Rattle.std.proofs.Common.{◌≡◌, ℕ, ◌+◌, ◌-◌, ◌<◌, ◌≤◌, Bool, true, false, List, [], ◌∷◌, ◌++◌, length, Some, Ok, Err, codes, Result, sym, refl, ap, ◌∙◌, subst, append_assoc, arith}
 use Rattle.std.proofs.lemmas.List.{append-nil}
 use Rattle.std.proofs.lemmas.Bool.{not_from_true, and_right}
 use Rattle.refusal.specs.declared.Refusal.{Refusal}
 use Rattle.refusal.specs.declared.Refusal.TheVariants.{Stage}
-use Rattle.xml.specs.declared.escape.Use.{Use}
 use Rattle.xml.specs.declared.escape.Use.TheVariants.{AttributeItem as attribute_item_use}
 use Rattle.xml.specs.Escaping.{escaped}
 use Rattle.model.specs.declared.place.Place.TheVariants.{Field, AttributeItem}
@@ -22,20 +21,19 @@ use Rattle.engine.proofs.Fronts.{front_as, past_same, past_set}
 use Rattle.engine.proofs.Tags.{Tag, tag_grows, tag_past}
 use Rattle.engine.proofs.Telling.{Clear, Small, told_small}
 use Rattle.engine.proofs.Spots.{on_attribute_item}
-use Rattle.rows.proofs.Elemental.{escaped_by}
 use Rattle.nests.proofs.Leaving.{front_pop, end_clear, end_small}
 use Rattle.nests.proofs.Pushing.{lays_placed}
-use Rattle.attributes.specs.Inserts.{Inserts, Closes, string_value}
+use Rattle.attributes.specs.Inserts.{Inserts, string_value}
 use Rattle.attributes.proofs.Quotes.{quote_tag, quote_depth, quote_full, inserts_told, holds_attribute, stage_attribute}
 use Rattle.attributes.proofs.Standing.{several_frame}
 use Rattle.attributes.proofs.Valuing.{string_is, string_small}
 
 -- more of the list's value
-several_more : (k s x y : List ℕ) (t : Bool) → pending (several k s t) ++ (x ++ (y ++ [])) ≡ pending (several k (s ++ (x ++ y)) true)
-several_more k s x y t = go (codes " ") (codes "=\"")
+several_more : (k s x : List ℕ) (t : Bool) → pending (several k s t) ++ x ≡ pending (several k (s ++ x) true)
+several_more k s x t = go (codes " ") (codes "=\"")
   where
-    go : (a b : List ℕ) → (a ++ (k ++ (b ++ s))) ++ (x ++ (y ++ [])) ≡ a ++ (k ++ (b ++ (s ++ (x ++ y))))
-    go a b = simp (append_assoc, append-nil)
+    go : (a b : List ℕ) → (a ++ (k ++ (b ++ s))) ++ x ≡ a ++ (k ++ (b ++ (s ++ x)))
+    go a b = simp append_assoc
 
 -- all of it, and the closing quote
 several_whole : (k s : List ℕ) (t : Bool) → pending (several k s t) ++ codes "\"" ≡ attribute k s
@@ -74,23 +72,22 @@ module _ (room : ℕ) (w : Mem) (t : Bool) (at : w.place ≡ AttributeItem t) (�
       ap (λ o. or_stay m (requoted_if l ls o)) (string_put text ρ x k s t ∙ ap Some e)
 
   -- a space where an item was written before, and the item
-  pub item_written : (v : Mem) (r : Result (Unit {0}) Refusal) (chosen : Use → ℕ → Bool) (space : List ℕ) → Safe w → utf8 x ≡ true → (length x ≡ 0 → ⊥) → ρ.chooses ≡ chosen → space ≡ gap t → Inserts r (w.frames.used - 2) space (escaped (chosen attribute_item_use) x) [] (AttributeItem true) w v → Does (call_value (string_value text ρ x)) room r w v
-  item_written v r chosen space safe fine some same sp y m lay =
+  pub item_written : (v : Mem) (r : Result (Unit {0}) Refusal) → Safe w → utf8 x ≡ true → (length x ≡ 0 → ⊥) → Inserts r (w.frames.used - 2) (gap t ++ escaped (ρ.chooses attribute_item_use) x) (AttributeItem true) w v → Does (call_value (string_value text ρ x)) room r w v
+  item_written v r safe fine some y m lay =
       on_attribute_item (λ y. Told (verdict (setting w) room (call_value (string_value text ρ x)) y) r w v) w t m lay at
       (λ k s l ls z.
       let i = w.indentation in
       let h = z.holds in
       let n = w.frames.used - 2 in
-      let e = escaped (ρ.chooses attribute_item_use) x in
-      let q = several k (s ++ (gap t ++ e)) true in
-      let more = several_more k s (gap t) e t in
-      inserts_told room (call_value (string_value text ρ x)) (several k s t) l ls w v n (gap t) e [] r (AttributeItem true) (quote q l ls)
+      let bs = gap t ++ escaped (ρ.chooses attribute_item_use) x in
+      let q = several k (s ++ bs) true in
+      let more = several_more k s bs t in
+      inserts_told room (call_value (string_value text ρ x)) (several k s t) l ls w v n bs r (AttributeItem true) (quote q l ls)
       (item_clear k s l ls fine) (item_small k s l ls) safe z (several_frame k s t l ls w h) (item_next k s l ls q (item_some k s x t (ρ.chooses attribute_item_use) some)) refl
       (ap (λ a. tag_end i l ls a ++ flatten i l.body.kids) (sym more))
       (λ g.
-      let g' = subst (λ a. Tag (in_tag n (gap t ++ (e ++ [])) w) l ls a (list_frame ∷ [])) more g in
-      record { stage = g'.stage; names = h.names; frames = g'.frames; records = h.records; wordy = h.wordy; fit = h.fit })
-      (subst (λ a. Inserts r n a e [] (AttributeItem true) w v) sp (subst (λ a. Inserts r n space a [] (AttributeItem true) w v) (escaped_by ρ chosen attribute_item_use x same) y)))
+      let g' = subst (λ a. Tag (in_tag n bs w) l ls a (list_frame ∷ [])) more g in
+      record { stage = g'.stage; names = h.names; frames = g'.frames; records = h.records; wordy = h.wordy; fit = h.fit }) y)
 
 -- the list's frame is free again
 tag_left : (w : Mem) (l : Level) (ls : List Outer) (p : List ℕ) → Tag w l ls p (list_frame ∷ []) → Tag (popped w) l ls p []
@@ -103,10 +100,10 @@ tag_left w l ls p t =
       frames = front_pop w.frames (xs ++ (f ∷ [])) list_frame (front_as w.frames (xs ++ (f ∷ (list_frame ∷ []))) ((xs ++ (f ∷ [])) ++ (list_frame ∷ [])) (sym (append_assoc xs (f ∷ []) (list_frame ∷ []))) t.frames);
     }
 
-module _ (room : ℕ) (w v : Mem) (t : Bool) (safe : Safe w) (at : w.place ≡ AttributeItem t) where
-  -- the end, from what the step says it did
-  pub list_end : (r : Result (Unit {0}) Refusal) → Closes r w v → Does call_end room r w v
-  list_end (Ok x) y m lay =
+module _ (room : ℕ) (w : Mem) (t : Bool) (safe : Safe w) (at : w.place ≡ AttributeItem t) where
+  -- the closing quote fits
+  pub list_end : (v : Mem) → w.stage.used + 1 ≤ length w.stage.all → v ≡ popped (placed Field (in_tag (w.frames.used - 2) (codes "\"") w)) → Does call_end room (Ok tt) w v
+  list_end v fits is m lay =
       on_attribute_item (λ a. Told (verdict (setting w) room call_end a) (Ok tt) w v) w t m lay at
       (λ k s l ls z.
       let h = z.holds in
@@ -116,23 +113,25 @@ module _ (room : ℕ) (w v : Mem) (t : Bool) (safe : Safe w) (at : w.place ≡ A
       let next = between (with_attribute l (attribute k s)) ls in
       let there = several_frame k s t l ls w h in
       let tag = quote_tag q l ls w h in
-      let grown = subst (λ a. Tag (in_tag n bs w) l ls a (list_frame ∷ [])) (several_whole k s t) (tag_grows w l ls (pending q) (quote_frames q) n there tag bs y.0) in
+      let grown = subst (λ a. Tag (in_tag n bs w) l ls a (list_frame ∷ [])) (several_whole k s t) (tag_grows w l ls (pending q) (quote_frames q) n there tag bs fits) in
       let laid = lays_placed next Field (popped (in_tag n bs w)) refl (holds_attribute l ls (popped (in_tag n bs w)) (attribute k s) (tag_left (in_tag n bs w) l ls (attribute k s) grown) h.names h.records h.wordy h.fit) in
       let beyond : Beyond w (popped (placed Field (in_tag n bs w))) =
       record {
-        stage = tag_past w l ls (pending q) (quote_frames q) n there tag bs y.0;
+        stage = tag_past w l ls (pending q) (quote_frames q) n there tag bs fits;
         names = past_same w.names;
         frames = past_set w.frames n (w.frames.used - 1) _ (omega (arith, quote_depth q l ls w h));
         form = refl;
         indentation = refl;
       } in
-      told_small w room call_end (quote q l ls) v (end_clear (quote q l ls) refl) (end_small (quote q l ls) w) safe h (subst (λ a. Lays next a) (sym y.1) laid) (subst (λ a. Beyond w a) (sym y.1) beyond))
-  list_end (Err e) y m lay =
-      on_attribute_item (λ a. Told (verdict (setting w) room call_end a) (Err e) w v) w t m lay at
+      told_small w room call_end (quote q l ls) v (end_clear (quote q l ls) refl) (end_small (quote q l ls) w) safe h (subst (λ a. Lays next a) (sym is) laid) (subst (λ a. Beyond w a) (sym is) beyond))
+
+  -- it does not
+  pub list_full : length w.stage.all < w.stage.used + 1 → Does call_end room (Err Stage) w w
+  list_full full m lay =
+      on_attribute_item (λ a. Told (verdict (setting w) room call_end a) (Err Stage) w w) w t m lay at
       (λ k s l ls z.
       let i = w.indentation in
       let q = several k s t in
       let a = attribute k s in
-      let refused = quote_full room call_end q l ls w (codes "\"") (between (with_attribute l a) ls) (end_clear (quote q l ls) refl) (end_small (quote q l ls) w) safe z refl
-      (stage_attribute i l ls a ∙ ap (λ b. tag_end i l ls b ++ flatten i l.body.kids) (sym (several_whole k s t))) y.2 in
-      subst (λ b. Told (verdict (setting w) room call_end (quote q l ls)) (Err b) w v) (sym y.0) (subst (λ b. Told (verdict (setting w) room call_end (quote q l ls)) (Err Stage) w b) (sym y.1) refused))
+      quote_full room call_end q l ls w (codes "\"") (between (with_attribute l a) ls) (end_clear (quote q l ls) refl) (end_small (quote q l ls) w) safe z refl
+      (stage_attribute i l ls a ∙ ap (λ b. tag_end i l ls b ++ flatten i l.body.kids) (sym (several_whole k s t))) full)

@@ -63,22 +63,19 @@ quote_full room c q l ls w bs m' clear small safe lay leads e full =
     (omega (arith, full, ap (λ z. length (stage i z)) leads, ap length e, long, length-append (tag_end i l ls (p ++ bs)) kids, length-append (tag_end i l ls p) kids, front_length w.stage (tag_end i l ls p ++ kids) lay.holds.stage))
 
 -- from what the step says it did
-pub inserts_told : (room : ℕ) (c : Call) (q : Quote) (l : Level) (ls : List Outer) (w v : Mem) (k : ℕ) (xs ys zs : List ℕ) (r : Result (Unit {0}) Refusal) (p : Place) (m' : State) → Clear c (quote q l ls) → Small c (quote q l ls) w → Safe w → Lays (quote q l ls) w → k ≡ length (outer_frames w.indentation ls) → next w.form c (quote q l ls) ≡ m' → p ≡ place m' → stage w.indentation m' ≡ tag_end w.indentation l ls (pending q ++ (xs ++ (ys ++ zs))) ++ flatten w.indentation l.body.kids → (Tag (in_tag k (xs ++ (ys ++ zs)) w) l ls (pending q ++ (xs ++ (ys ++ zs))) (quote_frames q) → Holds m' (in_tag k (xs ++ (ys ++ zs)) w)) → Inserts r k xs ys zs p w v → Told (verdict (setting w) room c (quote q l ls)) r w v
-inserts_told room c q l ls w v k xs ys zs (Ok x) p m' clear small safe lay at leads e s hold y =
-    let bs = xs ++ (ys ++ zs) in
+pub inserts_told : (room : ℕ) (c : Call) (q : Quote) (l : Level) (ls : List Outer) (w v : Mem) (k : ℕ) (bs : List ℕ) (r : Result (Unit {0}) Refusal) (p : Place) (m' : State) → Clear c (quote q l ls) → Small c (quote q l ls) w → Safe w → Lays (quote q l ls) w → k ≡ length (outer_frames w.indentation ls) → next w.form c (quote q l ls) ≡ m' → p ≡ place m' → stage w.indentation m' ≡ tag_end w.indentation l ls (pending q ++ bs) ++ flatten w.indentation l.body.kids → (Tag (in_tag k bs w) l ls (pending q ++ bs) (quote_frames q) → Holds m' (in_tag k bs w)) → Inserts r k bs p w v → Told (verdict (setting w) room c (quote q l ls)) r w v
+inserts_told room c q l ls w v k bs (Ok x) p m' clear small safe lay at leads e s hold y =
     let t = quote_tag q l ls w lay.holds in
-    let fits : w.stage.used + length bs ≤ length w.stage.all = omega (arith, y.0, length-append ys zs, length-append xs (ys ++ zs)) in
     let beyond : Beyond w (placed p (in_tag k bs w)) =
     record {
-      stage = tag_past w l ls (pending q) (quote_frames q) k at t bs fits;
+      stage = tag_past w l ls (pending q) (quote_frames q) k at t bs y.0;
       names = past_same w.names;
       frames = tag_frames_past w l ls (pending q) (quote_frames q) k at t bs;
       form = refl;
       indentation = refl;
     } in
-    let laid = lays_placed m' p (in_tag k bs w) e (hold (tag_grows w l ls (pending q) (quote_frames q) k at t bs fits)) in
+    let laid = lays_placed m' p (in_tag k bs w) e (hold (tag_grows w l ls (pending q) (quote_frames q) k at t bs y.0)) in
     told_small w room c (quote q l ls) v clear small safe lay.holds (subst (λ z. Lays z v) (sym leads) (subst (λ z. Lays m' z) (sym y.1) laid)) (subst (λ z. Beyond w z) (sym y.1) beyond)
-inserts_told room c q l ls w v k xs ys zs (Err x) p m' clear small safe lay at leads e s hold y =
-    let bs = xs ++ (ys ++ zs) in
-    let refused = quote_full room c q l ls w bs m' clear small safe lay leads s (omega (arith, y.2, length-append ys zs, length-append xs (ys ++ zs))) in
-    subst (λ z. Told (verdict (setting w) room c (quote q l ls)) (Err z) w v) (sym y.0) (subst (λ z. Told (verdict (setting w) room c (quote q l ls)) (Err Stage) w z) (sym y.1) refused)
+inserts_told room c q l ls w v k bs (Err x) p m' clear small safe lay at leads e s hold y =
+    let refused = quote_full room c q l ls w bs m' clear small safe lay leads s y.2 in
+    rw (y.0, y.1) refused

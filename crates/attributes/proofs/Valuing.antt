@@ -3,7 +3,6 @@ use Rattle.std.proofs.Common.{◌≡◌, ℕ, ◌-◌, Bool, true, false, List, 
 use Rattle.std.proofs.lemmas.List.{append-nil}
 use Rattle.std.proofs.lemmas.Bool.{not_from_true, and_right}
 use Rattle.refusal.specs.declared.Refusal.{Refusal}
-use Rattle.xml.specs.declared.escape.Use.{Use}
 use Rattle.xml.specs.declared.escape.Use.TheVariants.{Attribute as attribute_use}
 use Rattle.xml.specs.Escaping.{escaped}
 use Rattle.model.specs.declared.place.Place.TheVariants.{Field, Attribute, AttributeItem}
@@ -21,7 +20,6 @@ use Rattle.engine.proofs.Fronts.{front_as, front_push}
 use Rattle.engine.proofs.Tags.{Tag}
 use Rattle.engine.proofs.Spots.{on_attribute}
 use Rattle.rows.proofs.Told.{well_formed_none}
-use Rattle.rows.proofs.Elemental.{escaped_by}
 use Rattle.nests.specs.Frames.{Pushes}
 use Rattle.nests.proofs.Pushing.{lays_placed}
 use Rattle.nests.proofs.Rowing.{pushes_told}
@@ -30,14 +28,14 @@ use Rattle.attributes.proofs.Quotes.{inserts_told, holds_attribute, stage_attrib
 use Rattle.attributes.proofs.Standing.{single_frame}
 
 -- the name, the value and the quotes in one
-attribute_is : (k s : List ℕ) → pending (single k) ++ ([] ++ (s ++ codes "\"")) ≡ attribute k s
+attribute_is : (k s : List ℕ) → pending (single k) ++ (s ++ codes "\"") ≡ attribute k s
 attribute_is k s = go (codes " ") (codes "=\"") (codes "\"")
   where
     go : (a b c : List ℕ) → (a ++ (k ++ b)) ++ (s ++ c) ≡ a ++ (k ++ (b ++ (s ++ c)))
     go a b c = simp append_assoc
 
 -- a value that is complete at once
-single_told : (c : Value) (room : ℕ) (k : List ℕ) (l : Level) (ls : List Outer) (w v : Mem) (r : Result (Unit {0}) Refusal) (s : List ℕ) → utf8 (value_string c) ≡ true → no_text c ≡ false → value_opens c ≡ false → put_single k c ≡ Some (closed (attribute k s)) → Safe w → Lays (quote (single k) l ls) w → Inserts r (w.frames.used - 1) [] s (codes "\"") Field w v → Told (verdict (setting w) room (call_value c) (quote (single k) l ls)) r w v
+single_told : (c : Value) (room : ℕ) (k : List ℕ) (l : Level) (ls : List Outer) (w v : Mem) (r : Result (Unit {0}) Refusal) (s : List ℕ) → utf8 (value_string c) ≡ true → no_text c ≡ false → value_opens c ≡ false → put_single k c ≡ Some (closed (attribute k s)) → Safe w → Lays (quote (single k) l ls) w → Inserts r (w.frames.used - 1) (s ++ codes "\"") Field w v → Told (verdict (setting w) room (call_value c) (quote (single k) l ls)) r w v
 single_told c room k l ls w v r s fine shape small put safe lay y =
     let i = w.indentation in
     let m = quote (single k) l ls in
@@ -45,7 +43,7 @@ single_told c room k l ls w v r s fine shape small put safe lay y =
     let bs = s ++ codes "\"" in
     let h = lay.holds in
     let whole = attribute_is k s in
-    inserts_told room (call_value c) (single k) l ls w v at [] s (codes "\"") r Field (between (with_attribute l (attribute k s)) ls)
+    inserts_told room (call_value c) (single k) l ls w v at bs r Field (between (with_attribute l (attribute k s)) ls)
     (record { order = refl; bytes = not_from_true (utf8 (value_string c)) fine; shape = shape; text = and_right (is_text c) false refl; name = refl }) (record { brought = refl; takes = small; handed = refl })
     safe lay (single_frame k l ls w h) (ap (λ o. or_stay m (requoted_if l ls o)) put) refl
     (stage_attribute i l ls (attribute k s) ∙ ap (λ z. tag_end i l ls z ++ flatten i l.body.kids) (sym whole))
@@ -53,7 +51,7 @@ single_told c room k l ls w v r s fine shape small put safe lay y =
 
 module _ (room : ℕ) (w v : Mem) (r : Result (Unit {0}) Refusal) (safe : Safe w) (at : w.place ≡ Attribute) where
   -- nothing but the quote
-  pub attribute_none : Inserts r (w.frames.used - 1) [] [] (codes "\"") Field w v → Does (call_value val_none) room r w v
+  pub attribute_none : Inserts r (w.frames.used - 1) (codes "\"") Field w v → Does (call_value val_none) room r w v
   attribute_none y m lay =
       on_attribute (λ x. Told (verdict (setting w) room (call_value val_none) x) r w v) w m lay at
       (λ k l ls z. single_told val_none room k l ls w v r [] well_formed_none refl refl refl safe z y)
@@ -100,9 +98,8 @@ string_put true ρ s k = refl
 string_put false ρ s k = refl
 
 -- such a value and its quote
-pub attribute_string : (room : ℕ) (w v : Mem) (ρ : Rule) (s : List ℕ) (text : Bool) (r : Result (Unit {0}) Refusal) (chosen : Use → ℕ → Bool) → w.place ≡ Attribute → Safe w → utf8 s ≡ true → ρ.chooses ≡ chosen → Inserts r (w.frames.used - 1) [] (escaped (chosen attribute_use) s) (codes "\"") Field w v → Does (call_value (string_value text ρ s)) room r w v
-attribute_string room w v ρ s text r chosen at safe fine same y m lay =
+pub attribute_string : (room : ℕ) (w v : Mem) (ρ : Rule) (s : List ℕ) (text : Bool) (r : Result (Unit {0}) Refusal) → w.place ≡ Attribute → Safe w → utf8 s ≡ true → Inserts r (w.frames.used - 1) (escaped (ρ.chooses attribute_use) s ++ codes "\"") Field w v → Does (call_value (string_value text ρ s)) room r w v
+attribute_string room w v ρ s text r at safe fine y m lay =
     let c = string_value text ρ s in
-    let bytes = subst (λ z. Inserts r (w.frames.used - 1) [] z (codes "\"") Field w v) (escaped_by ρ chosen attribute_use s same) y in
     on_attribute (λ x. Told (verdict (setting w) room (call_value c) x) r w v) w m lay at
-    (λ k l ls z. single_told c room k l ls w v r (escaped (ρ.chooses attribute_use) s) (ap utf8 (string_is text ρ s) ∙ fine) (string_shape text ρ s) (string_small text ρ s) (string_put text ρ s k) safe z bytes)
+    (λ k l ls z. single_told c room k l ls w v r (escaped (ρ.chooses attribute_use) s) (ap utf8 (string_is text ρ s) ∙ fine) (string_shape text ρ s) (string_small text ρ s) (string_put text ρ s k) safe z y)

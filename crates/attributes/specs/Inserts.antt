@@ -1,21 +1,15 @@
 -- What a step that puts bytes in at the end of an open tag answers, and the values that are such bytes. Assumes nothing.
-use Rattle.std.specs.Prelude.{◌≡◌, ℕ, ◌+◌, ◌-◌, ◌<◌, ◌≤◌, Bool, true, false, List, ◌++◌, length, Ok, Err, codes, Result}
+use Rattle.std.specs.Prelude.{◌≡◌, ℕ, ◌+◌, ◌<◌, ◌≤◌, Bool, true, false, List, length, Ok, Err, Result}
 use Rattle.refusal.specs.declared.Refusal.{Refusal}
 use Rattle.refusal.specs.declared.Refusal.TheVariants.{Stage}
 use Rattle.model.specs.declared.place.Place.{Place}
-use Rattle.model.specs.declared.place.Place.TheVariants.{Field}
 use Rattle.model.specs.Calls.{Rule, Value, val_text, val_variant}
-use Rattle.engine.specs.Memory.{Mem, in_tag, placed, popped}
+use Rattle.engine.specs.Memory.{Mem, in_tag, placed}
 
--- three pieces stand at the end of the tag whose frame is at k, and the next call goes to the place; or they do not fit, and nothing has changed
-abbrev pub Inserts : Result (Unit {0}) Refusal → ℕ → List ℕ → List ℕ → List ℕ → Place → Mem → Mem → Type 0
-Inserts (Ok x) k a b c p w v = (w.stage.used + (length a + (length b + length c)) ≤ length w.stage.all) × (v ≡ placed p (in_tag k (a ++ (b ++ c)) w))
-Inserts (Err e) k a b c p w v = (e ≡ Stage) × (v ≡ w) × (length w.stage.all < w.stage.used + (length a + (length b + length c)))
-
--- the closing quote stands there, and the list's frame above is free again; or it does not fit, and nothing has changed
-abbrev pub Closes : Result (Unit {0}) Refusal → Mem → Mem → Type 0
-Closes (Ok x) w v = (w.stage.used + 1 ≤ length w.stage.all) × (v ≡ popped (placed Field (in_tag (w.frames.used - 2) (codes "\"") w)))
-Closes (Err e) w v = (e ≡ Stage) × (v ≡ w) × (length w.stage.all < w.stage.used + 1)
+-- bytes stand at the end of the tag whose frame is at k, and the next call goes to the place; or they do not fit, and nothing has changed
+abbrev pub Inserts : Result (Unit {0}) Refusal → ℕ → List ℕ → Place → Mem → Mem → Type 0
+Inserts (Ok x) k bs p w v = (w.stage.used + length bs ≤ length w.stage.all) × (v ≡ placed p (in_tag k bs w))
+Inserts (Err e) k bs p w v = (e ≡ Stage) × (v ≡ w) × (length w.stage.all < w.stage.used + length bs)
 
 -- a text, or a variant's name that is written as one
 abbrev pub string_value : Bool → Rule → List ℕ → Value

@@ -1,8 +1,25 @@
-use Rattle.std.proofs.Common.{rules}
+use Rattle.std.proofs.Common.{◌≡◌, ◌-◌, true, ◌++◌, length, rules}
+use Rattle.xml.specs.declared.escape.Use.TheVariants.{AttributeItem as attribute_item_use}
+use Rattle.model.specs.declared.place.Place.TheVariants.{AttributeItem}
+use Rattle.model.specs.Step.{gap}
 use Rattle.engine.specs.Memory.{mem}
+use Rattle.rows.proofs.Elemental.{by_rule}
+use Rattle.attributes.specs.Inserts.{Inserts}
 use Rattle.attributes.proofs.Itemizing.{item_written}
 use Rattle.attributes.proofs.items.string_at_attribute_item.Goals as goal
 
-pub returns-else-value-eq0 : goal.returns-else-value-eq0
-returns-else-value-eq0 g c =
-    record { does = λ room ρ same text. item_written room (mem c.args.core.now) c.args.written (search rules) ρ c.args.value.now text (mem c.put_item.new.core) c.put_item.result (g.R.EscapeRule.chooses c.args.rule.now) c.gap_before.result.now (search rules) c.in-Ok.ensures.checked c.if-value-eq0.false same c.gap_before.ensures.value c.put_item.ensures.inserts }
+pub returns : goal.returns
+returns g c =
+    let w = mem c.args.core.now in
+    let v = mem c.insert.new.core in
+    let r = c.insert.result in
+    let s = c.args.string.value.now in
+    let t = c.args.written in
+    let some : length s ≡ 0 → ⊥ = search rules in
+    let is = c.escaped-item.ensures in
+    let inserts = rw (c.gap.ensures.value, is.value, is.rule, is.target) at c.insert.ensures.inserts in
+    record {
+      does = λ room ρ e text.
+          item_written room w t c.requires.place ρ s text v r c.requires.safe c.in_ok-check_bytes.ensures.checked some
+          (by_rule (λ x. Inserts r (w.frames.used - 2) (gap t ++ x) (AttributeItem true) w v) ρ attribute_item_use s e inserts);
+    }

@@ -1,7 +1,6 @@
-use Rattle.std.proofs.Common.{rules}
 use Rattle.engine.specs.Memory.{mem}
 use Rattle.attributes.proofs.Valuing.{attribute_none}
 use Rattle.attributes.proofs.values.none_at_attribute.Goals as goal
 
 pub returns : goal.returns
-returns c = record { does = λ room. attribute_none room (mem c.args.core.now) (mem c.put_quote.new.core) c.put_quote.result (search rules) (search rules) c.put_quote.ensures.inserts }
+returns c = record { does = λ room. attribute_none room (mem c.args.core.now) (mem c.insert.new.core) c.insert.result c.requires.safe c.requires.place c.insert.ensures.inserts }

@@ -1,8 +1,22 @@
-use Rattle.std.proofs.Common.{rules}
+use Rattle.std.proofs.Common.{◌-◌, ◌++◌, codes}
+use Rattle.xml.specs.declared.escape.Use.TheVariants.{Attribute as attribute_use}
+use Rattle.model.specs.declared.place.Place.TheVariants.{Field}
 use Rattle.engine.specs.Memory.{mem}
+use Rattle.rows.proofs.Elemental.{by_rule}
+use Rattle.attributes.specs.Inserts.{Inserts}
 use Rattle.attributes.proofs.Valuing.{attribute_string}
 use Rattle.attributes.proofs.values.string_at_attribute.Goals as goal
 
-pub returns-in-Ok : goal.returns-in-Ok
-returns-in-Ok g c =
-    record { does = λ room ρ same text. attribute_string room (mem c.args.core.now) (mem c.put_value.new.core) ρ c.args.value.now text c.put_value.result (g.R.EscapeRule.chooses c.args.rule.now) (search rules) (search rules) c.in-Ok.ensures.checked same c.put_value.ensures.inserts }
+pub returns : goal.returns
+returns g c =
+    let w = mem c.args.core.now in
+    let v = mem c.insert.new.core in
+    let r = c.insert.result in
+    let s = c.args.string.value.now in
+    let is = c.escaped-value.ensures in
+    let inserts = rw (is.value, is.rule, is.target) at c.insert.ensures.inserts in
+    record {
+      does = λ room ρ e text.
+          attribute_string room w v ρ s text r c.requires.place c.requires.safe c.in_ok-check_bytes.ensures.checked
+          (by_rule (λ x. Inserts r (w.frames.used - 1) (x ++ codes "\"") Field w v) ρ attribute_use s e inserts);
+    }
