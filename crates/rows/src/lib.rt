@@ -3,11 +3,13 @@
 
 mod element;
 mod elements;
+mod items;
 mod roots;
 mod words;
 
 pub use element::{none_at_element, text_at_element, variant_at_element};
 pub use elements::{Shut, lead, shut};
+pub use items::gap;
 pub use roots::{abandon, open};
 pub use words::{
     none_as_words, none_at_content, string_as_words, text_at_content, variant_at_text,
