@@ -124,10 +124,6 @@ stage_close i f l (o ∷ os) =
     stage_settle i element_result o.rows (with_body o.level (with_tag o.level.body ms)) os
     ∙ sym (regroup_around (below i os) (open_tag i o.level os) (flatten i kids) (flatten i ms) ∙ ap (λ z. tag_end i o.level os [] ++ z) (sym (flatten-++ i kids ms)))
 
--- leaving depends on the memory alone
-pub left_from : (x y v : Mem) → x ≡ y → Left x v → Left y v
-left_from x y v e = subst (λ z. Left z v) e
-
 -- the record is left, from memory in which its bytes stand
 pub lays_left : (x v : Mem) (f : EmptyElementHandling) (l : Level) (ls : List Outer) (g : Frame) → Closed x f l ls g → Left x v → Lays (close f l ls) v
 lays_left x v f l [] g c y = subst (λ k. Lays (close f l []) k) (sym (y.0 (front_length x.frames (g ∷ []) c.frames))) (lays_root x f l g c)

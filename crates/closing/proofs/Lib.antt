@@ -1,4 +1,3 @@
-pub mod Writing
 pub mod Closing
 pub mod Ending
 pub mod Standing

@@ -11,10 +11,6 @@ use Rattle.engine.proofs.Settling.{some_open}
 use Rattle.engine.proofs.Spots.{on_field}
 use Rattle.closing.proofs.Ending.{top_level}
 
-pub field_open : (m : State) (w : Mem) → Lays m w → w.place ≡ Field → 0 < w.frames.used
-field_open m w lay at =
-    on_field (λ x. 0 < w.frames.used) w m lay at (λ l ls y. some_open w (outer_frames w.indentation ls) (record_frame w.indentation l ls []) y.holds.frames)
-
 pub field_records : (m : State) (w : Mem) → Lays m w → w.place ≡ Field → 0 < w.records
 field_records m w lay at = on_field (λ x. 0 < w.records) w m lay at (λ l ls y. omega (arith, y.holds.records))
 

@@ -34,9 +34,6 @@ Left w v = (w.frames.used ≡ 1 → v ≡ left_root w) × (1 < w.frames.used →
 abbrev pub stage_shut : ℕ → Mem → Buf ℕ
 stage_shut tag w = record { all = opened w.stage.all tag w.stage.used (codes ">"); used = w.stage.used + 1 }
 
-abbrev pub tag_shut : ℕ → Mem → Mem
-tag_shut tag w = with_stage w (stage_shut tag w)
-
 -- the `<` of the end tag of the record on top, with its indent
 abbrev pub end_lead : Mem → List ℕ
 end_lead w = bytes_of_mark w.indentation (less_than ((top_frame w).flag && not w.wordy) (w.records - 1))

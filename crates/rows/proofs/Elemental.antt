@@ -37,11 +37,6 @@ module _ (c : Value) (room from : ℕ) (w v : Mem) (res : Result (Unit {0}) Refu
       element_told c room u n rs l ls w v res (child_start rs l.body (suc (length ls)) ∷ text_element n s) (text_bytes w (name_of w from) s) a q o (p w.form (suc (length ls)) rs l.body u n)
       (ap (λ x. text_bytes w x s) (name_is u n rs l ls w from e y.holds) ∙ text_is (element u n) n s rs l ls w refl y.holds) safe y h)
 
-  pub element_ill_formed : (e : Refusal) → utf8 (value_string c) ≡ false → e ≡ BytesAt (whole (value_string c)) → Does (call_value c) room (Err e) w w
-  element_ill_formed e a is m lay =
-      on_element (λ x. Told (verdict (setting w) room (call_value c) x) (Err e) w w) w from m lay at
-      (λ u n rs l ls z y. told_ill_formed w room (call_value c) (inside (element u n) rs l ls) e refl a is)
-
 -- what a rule chooses is all that counts of it
 pub by_rule : (P : List ℕ → Type 0) (ρ : Rule) {chosen : Use → ℕ → Bool} (u : Use) (s : List ℕ) → ρ.chooses ≡ chosen → P (escaped (chosen u) s) → P (escaped (ρ.chooses u) s)
 by_rule P ρ u s e = subst (λ f. P (escaped (f u) s)) (sym e)

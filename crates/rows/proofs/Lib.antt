@@ -1,4 +1,3 @@
-pub mod Written
 pub mod Tagging
 pub mod Told
 pub mod Elemental

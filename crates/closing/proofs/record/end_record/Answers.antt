@@ -1,7 +1,6 @@
-use Rattle.std.proofs.Common.{◌≡◌, arith, rules}
-use Rattle.model.specs.declared.place.Place.TheVariants.{Field}
+use Rattle.std.proofs.Common.{arith}
 use Rattle.model.specs.Marks.{shut}
-use Rattle.engine.specs.Memory.{mem, Safe}
+use Rattle.engine.specs.Memory.{mem}
 use Rattle.rows.specs.Pieces.{name_of}
 use Rattle.closing.specs.Ends.{stage_shut, end_of}
 use Rattle.closing.proofs.Ending.{shuts_empty, shuts_full, end_does}
@@ -11,14 +10,10 @@ pub returns-then-top-core : goal.returns-then-top-core
 returns-then-top-core c =
     let w = mem c.args.core.now in
     let t = c.top-top.result in
-    let safe : Safe w = search rules in
-    let at : w.place ≡ Field = search rules in
-    record { does = λ room. end_does room w (mem c.end_full.new.core) c.end_full.result 1 (end_of w t.from) (stage_shut t.tag w) safe at (λ l ls h. shuts_full w l ls t c.top-top.ensures.value h (omega arith)) c.end_full.ensures.ends }
+    record { does = λ room. end_does room w (mem c.end_full.new.core) c.end_full.result 1 (end_of w t.from) (stage_shut t.tag w) c.requires.safe c.requires.place (λ l ls h. shuts_full w l ls t c.top-top.ensures.value h (omega arith)) c.end_full.ensures.ends }
 
 pub returns-else-top-core : goal.returns-else-top-core
 returns-else-top-core c =
     let w = mem c.args.core.now in
     let t = c.top-top.result in
-    let safe : Safe w = search rules in
-    let at : w.place ≡ Field = search rules in
-    record { does = λ room. end_does room w (mem c.end_empty.new.core) c.end_empty.result 0 (shut w.form (name_of w t.from)) w.stage safe at (λ l ls h. shuts_empty w l ls t c.top-top.ensures.value h (omega arith)) c.end_empty.ensures.ends }
+    record { does = λ room. end_does room w (mem c.end_empty.new.core) c.end_empty.result 0 (shut w.form (name_of w t.from)) w.stage c.requires.safe c.requires.place (λ l ls h. shuts_empty w l ls t c.top-top.ensures.value h (omega arith)) c.end_empty.ensures.ends }
