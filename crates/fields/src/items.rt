@@ -3,89 +3,49 @@ ghost use Rattle.std.specs.Prelude.{◌≡◌, ℕ, ◌++◌};
 ghost use Rattle.xml.specs.Escaping.{escaped};
 ghost use Rattle.xml.specs.declared.escape.Use.TheVariants.{TextItem as TextItemUse};
 ghost use Rattle.model.specs.declared.place.Place.TheVariants.{TextItem as TextItemPlace};
-ghost use Rattle.model.specs.Calls.{Rule, Value, call_value, val_text, val_variant};
+ghost use Rattle.model.specs.Calls.{Rule, call_value, val_text, val_variant};
 ghost use Rattle.model.specs.Step.{gap};
 ghost use Rattle.engine.specs.Memory.{mem, Safe};
 ghost use Rattle.engine.specs.Lays.{Does};
-ghost use Rattle.fields.specs.Items.{Adds, IsItem};
+ghost use Rattle.fields.specs.Items.{Adds};
 
-use engine::{Core, check_bytes};
+use engine::{Core, check_bytes, put};
 use model::Place;
 use refusal::Refusal;
-use xml::{EscapeRule, Use, escaped_len};
-
-// What stands before an item: one space, if an item was written.
-fn gap_before(written: bool) -> &'static [u8]
-    ensures value { result.now ≡ gap written }
-{
-    if written { b" " } else { b"" }
-}
+use rows::gap;
+use xml::{EscapeRule, Unescaped, Use};
 
 // An item that is not empty, behind those written before.
 fn append_item<R: EscapeRule>(
     core: &mut Core<'_>,
     written: bool,
-    value: &[u8],
-    rule: &R,
+    string: Unescaped<'_, R>,
 ) -> Result<(), Refusal>
     requires { Safe (mem core.old) }
-    ensures adds { Adds result (gap written ++ escaped (R.EscapeRule.chooses rule.now TextItemUse) value.now) (mem core.old) (mem core.new) }
+    ensures adds { Adds result (gap written ++ escaped (R.chooses string.entry.rule.now TextItemUse) string.entry.value.now) (mem core.old) (mem core.new) }
 {
-    let front = gap_before(written);
-    let len = escaped_len(value, rule, Use::TextItem);
-    if core.room() < len.saturating_add(front.len()) {
-        return Err(Refusal::Stage);
-    }
-    core.append(front);
-    core.append_escaped(value, rule, Use::TextItem);
+    let item = (gap(written), string.escaped(Use::TextItem));
+    put(&mut core.stage, &item)?;
     core.wordy = true;
     core.place = Place::TextItem(true);
     Ok(())
 }
 
-// An item, be it a text or a variant; an empty one writes nothing.
-fn write_item<R: EscapeRule>(
+/// A text or a variant as an item of a list that is a text; an empty one writes nothing.
+pub fn string_as_item<R: EscapeRule>(
     core: &mut Core<'_>,
     written: bool,
-    value: &[u8],
-    rule: &R,
+    string: Unescaped<'_, R>,
 ) -> Result<(), Refusal>
-    requires { (Safe (mem core.old)) × (core.old.place ≡ TextItemPlace written) }
-    ensures does { (room : ℕ) (ρ : Rule) (item : Value) → ρ.chooses ≡ R.EscapeRule.chooses rule.now → IsItem item ρ value.now → Does (call_value item) room result (mem core.old) (mem core.new) }
+    requires safe { Safe (mem core.old) }
+    requires place { core.old.place ≡ TextItemPlace written }
+    ensures text { (room : ℕ) (ρ : Rule) → ρ.chooses ≡ R.chooses string.entry.rule.now → Does (call_value (val_text ρ string.entry.value.now)) room result (mem core.old) (mem core.new) }
+    ensures variant { (room : ℕ) (ρ : Rule) → ρ.chooses ≡ R.chooses string.entry.rule.now → Does (call_value (val_variant ρ string.entry.value.now)) room result (mem core.old) (mem core.new) }
 {
-    match check_bytes(value) {
-        Err(refusal) => Err(refusal),
-        Ok(()) => {
-            if value.len() == 0 {
-                return Ok(());
-            }
-            append_item(core, written, value, rule)
-        }
+    check_bytes(string.value)?;
+    if string.value.is_empty() {
+        Ok(())
+    } else {
+        append_item(core, written, string)
     }
-}
-
-/// A text as an item of a list that is a text.
-pub fn text_item<R: EscapeRule>(
-    core: &mut Core<'_>,
-    written: bool,
-    value: &[u8],
-    rule: &R,
-) -> Result<(), Refusal>
-    requires { (Safe (mem core.old)) × (core.old.place ≡ TextItemPlace written) }
-    ensures does { (room : ℕ) (ρ : Rule) → ρ.chooses ≡ R.EscapeRule.chooses rule.now → Does (call_value (val_text ρ value.now)) room result (mem core.old) (mem core.new) }
-{
-    write_item(core, written, value, rule)
-}
-
-/// A variant as an item of a list that is a text.
-pub fn variant_item<R: EscapeRule>(
-    core: &mut Core<'_>,
-    written: bool,
-    value: &[u8],
-    rule: &R,
-) -> Result<(), Refusal>
-    requires { (Safe (mem core.old)) × (core.old.place ≡ TextItemPlace written) }
-    ensures does { (room : ℕ) (ρ : Rule) → ρ.chooses ≡ R.EscapeRule.chooses rule.now → Does (call_value (val_variant ρ value.now)) room result (mem core.old) (mem core.new) }
-{
-    write_item(core, written, value, rule)
 }

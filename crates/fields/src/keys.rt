@@ -12,63 +12,54 @@ use refusal::Refusal;
 
 // A field whose well-formed key does not begin with '@'.
 fn child_field(core: &mut Core<'_>, key: &[u8]) -> Result<(), Refusal>
-    requires safe { (Safe (mem core.old)) × (core.old.place ≡ FieldPlace) }
-    requires key_value { (utf8 key.now ≡ true) × (((rest : List ℕ) → key.now ≢ 64 ∷ rest)) }
+    requires safe { Safe (mem core.old) }
+    requires place { core.old.place ≡ FieldPlace }
+    requires key_value { utf8 key.now ≡ true }
+    requires plain { (rest : List ℕ) → key.now ≢ 64 ∷ rest }
     ensures does { (room : ℕ) → Does (call_field key.now) room result (mem core.old) (mem core.new) }
 {
     if is_text_name(key) {
         core.place = Place::Text;
-        return Ok(());
-    }
-    if is_value_name(key) {
+    } else if is_value_name(key) {
         core.place = Place::Content(true);
-        return Ok(());
-    }
-    match check_name(key) {
-        Err(fault) => Err(fault),
-        Ok(()) => {
-            if core.names_room() < key.len() {
-                return Err(Refusal::Stack);
-            }
-            let from = core.named;
-            core.push_name(key);
-            core.place = Place::Element(from);
-            Ok(())
+    } else {
+        check_name(key)?;
+        if !core.names.fits(&key) {
+            return Err(Refusal::Stack);
         }
+        let from = core.push_name(key);
+        core.place = Place::Element(from);
     }
+    Ok(())
 }
 
 // A field whose well-formed key is '@' and then this name: the attribute begins at the end of the open tag.
 fn attribute_field(core: &mut Core<'_>, name: &[u8]) -> Result<(), Refusal>
-    requires safe { (Safe (mem core.old)) × ((0 < core.old.depth) × (((top_frame (mem core.old)).tag ≤ core.old.used) × (core.old.place ≡ FieldPlace))) }
+    requires safe { Safe (mem core.old) }
+    requires open { 0 < core.old.frames.used }
+    requires tag { (top_frame (mem core.old)).tag ≤ core.old.stage.used }
+    requires place { core.old.place ≡ FieldPlace }
     requires name_value { utf8 (64 ∷ name.now) ≡ true }
     ensures does { (room : ℕ) → Does (call_field (64 ∷ name.now)) room result (mem core.old) (mem core.new) }
 {
-    match check_name(name) {
-        // The '@' is counted.
-        Err(fault) => Err(Refusal::Name(1 + fault.offset())),
-        Ok(()) => {
-            if core.room() < name.len() + 3 {
-                return Err(Refusal::Stage);
-            }
-            let at = core.depth - 1;
-            core.insert(at, b" ", name, b"=\"");
-            core.place = Place::Attribute;
-            Ok(())
-        }
-    }
+    // The '@' is counted.
+    check_name(name).map_err(|fault| Refusal::Name(1 + fault.offset()))?;
+    core.put_in_tag(core.frames.used - 1, &(*b" ", (name, *b"=\"")))?;
+    core.place = Place::Attribute;
+    Ok(())
 }
 
 /// A field of this key.
 pub fn field(core: &mut Core<'_>, key: &[u8]) -> Result<(), Refusal>
-    requires { (Safe (mem core.old)) × ((0 < core.old.depth) × (((top_frame (mem core.old)).tag ≤ core.old.used) × (core.old.place ≡ FieldPlace))) }
+    requires safe { Safe (mem core.old) }
+    requires open { 0 < core.old.frames.used }
+    requires tag { (top_frame (mem core.old)).tag ≤ core.old.stage.used }
+    requires place { core.old.place ≡ FieldPlace }
     ensures does { (room : ℕ) → Does (call_field key.now) room result (mem core.old) (mem core.new) }
 {
-    match check_bytes(key) {
-        Err(refusal) => Err(refusal),
-        Ok(()) => match key {
-            [b'@', name @ ..] => attribute_field(core, name),
-            _ => child_field(core, key),
-        },
+    check_bytes(key)?;
+    match key {
+        [b'@', name @ ..] => attribute_field(core, name),
+        _ => child_field(core, key),
     }
 }

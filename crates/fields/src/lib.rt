@@ -4,5 +4,5 @@
 mod items;
 mod keys;
 
-pub use items::{text_item, variant_item};
+pub use items::string_as_item;
 pub use keys::field;

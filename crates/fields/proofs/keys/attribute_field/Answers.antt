@@ -1,26 +1,27 @@
-use Rattle.std.proofs.Common.{codes, arith}
-use Rattle.std.proofs.lemmas.List.{length-append}
+use Rattle.std.proofs.Common.{◌≡◌, ◌≤◌, length, None, Err, subst, rules, arith}
 use Rattle.refusal.specs.Refusals.{offset}
+use Rattle.xml.specs.Names.{name_fault}
 use Rattle.engine.specs.Memory.{mem}
-use Rattle.fields.proofs.AttributeKeys.{behind_at, fault_within, attribute_key_full, attribute_key}
+use Rattle.engine.specs.Checks.{CheckedName}
+use Rattle.fields.proofs.AttributeKeys.{behind_at, fault_within, attribute_key}
 use Rattle.fields.proofs.keys.attribute_field.Goals as goal
 
 pub check_name-requires : goal.check_name-requires
 check_name-requires c = behind_at c.args.name.now c.requires.name_value
 
-pub overflow_add-result : goal.overflow_add-result
-overflow_add-result c =
+pub map_err-requires : goal.map_err-requires
+map_err-requires c =
     let n = c.args.name.now in
-    omega (arith, fault_within n (offset c.in-Err.fault) (behind_at n c.requires.name_value) c.in-Err.ensures.checked.0, c.offset.ensures.value)
+    λ e is.
+    let told : CheckedName (Err e) n = subst (λ r. CheckedName r n) is c.check_name.ensures.checked in
+    let low : offset e ≤ length n = fault_within n (offset e) (behind_at n c.requires.name_value) told.0 in
+    λ taken given offset. omega (arith, low, offset.ensures)
 
-pub returns-then-room-name : goal.returns-then-room-name
-returns-then-room-name c =
-    let n = c.args.name.now in
+pub returns : goal.returns
+returns c =
     let p = c.requires in
-    record { does = λ room. attribute_key_full n room (mem c.args.core.now) p.safe.0 p.safe.1.1.1 p.name_value c.in-Ok.ensures.checked (omega (arith, length-append n (codes "=\""))) }
-
-pub returns-else-room-name : goal.returns-else-room-name
-returns-else-room-name c =
     let n = c.args.name.now in
-    let p = c.requires in
-    record { does = λ room. attribute_key n room (mem c.args.core.now) p.safe.0 p.safe.1.1.1 p.name_value c.in-Ok.ensures.checked (mem c.insert.new.self) (omega (arith, length-append n (codes "=\""))) c.insert.ensures.memory }
+    let w = mem c.args.core.now in
+    let named : name_fault n ≡ None = search rules in
+    let puts = c.in_ok-put_in_tag.ensures.puts in
+    record { does = λ room. attribute_key n room w p.safe p.place p.name_value named (mem c.put_in_tag.new.self) puts.0 puts.1 }

@@ -1,22 +1,14 @@
-use Rattle.std.proofs.Common.{sym, ◌∙◌, arith}
+use Rattle.std.proofs.Common.{◌+◌, ◌≤◌, length, sym, ◌∙◌, rules}
 use Rattle.engine.specs.Memory.{mem}
-use Rattle.fields.proofs.ChildKeys.{text_key, value_key, element_key}
+use Rattle.fields.proofs.ChildKeys.{element_key}
 use Rattle.fields.proofs.keys.child_field.Goals as goal
 
-pub returns-then-is_text_name : goal.returns-then-is_text_name
-returns-then-is_text_name c =
-    let p = c.requires in
-    record { does = λ room. text_key c.args.key.now room (mem c.args.core.now) p.safe.0 p.safe.1 p.key_value.0 p.key_value.1 (sym c.is_text_name.ensures.value ∙ c.if-is_text_name.true) }
-
-pub returns-then-is_value_name : goal.returns-then-is_value_name
-returns-then-is_value_name c =
-    let p = c.requires in
-    let t = sym c.is_text_name.ensures.value ∙ c.if-is_text_name.false in
-    record { does = λ room. value_key c.args.key.now room (mem c.args.core.now) p.safe.0 p.safe.1 p.key_value.0 p.key_value.1 t (sym c.is_value_name.ensures.value ∙ c.if-is_value_name.true) }
-
-pub returns-else-names_room-key : goal.returns-else-names_room-key
-returns-else-names_room-key c =
+pub returns-else-not-fits : goal.returns-else-not-fits
+returns-else-not-fits c =
     let p = c.requires in
     let t = sym c.is_text_name.ensures.value ∙ c.if-is_text_name.false in
     let v = sym c.is_value_name.ensures.value ∙ c.if-is_value_name.false in
-    record { does = λ room. element_key c.args.key.now room (mem c.args.core.now) p.safe.0 p.safe.1 p.key_value.0 p.key_value.1 t v c.in-Ok.ensures.checked (mem c.push_name.new.self) (omega arith) c.push_name.ensures.memory }
+    let w = mem c.args.core.now in
+    let k = c.args.key.now in
+    let fits : w.names.used + length k ≤ length w.names.all = search rules in
+    rw c.push_name-from.ensures.start (record { does = λ room. element_key k room w p.safe p.place p.key_value p.plain t v c.in_ok-check_name.ensures.checked (mem c.push_name-from.new.self) fits c.push_name-from.ensures.memory })
