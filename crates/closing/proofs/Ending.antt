@@ -29,40 +29,40 @@ pub record Shuts (w : Mem) (l : Level) (ls : List Outer) (n : ℕ) (bs : List �
   pub written : w.stage.used + (n + length bs) ≤ length w.stage.all → Front (grown b bs) (below w.indentation ls ++ flatten w.indentation (closed_record w.form (length ls) (start ls) l))
   pub past : w.stage.used + (n + length bs) ≤ length w.stage.all → Past w.stage (grown b bs)
 
-module _ (w : Mem) (l : Level) (ls : List Outer) (t : Frame) (e : t ≡ top_frame w) (h : Holds (between l ls) w) where
+module _ (w : Mem) (l : Level) (ls : List Outer) (h : Holds (between l ls) w) where
   -- the top frame is the record's
-  pub top_level : t ≡ record_frame w.indentation l ls []
-  top_level = e ∙ top_is w (outer_frames w.indentation ls) (record_frame w.indentation l ls []) h.frames
+  pub top_level : top_frame w ≡ record_frame w.indentation l ls []
+  top_level = top_is w (outer_frames w.indentation ls) (record_frame w.indentation l ls []) h.frames
 
-  pub level_name : name_of w t.from ≡ l.name
-  level_name = front_second w.names l.under l.name t.from (ap (λ f. f.from) top_level) h.names
+  pub level_name : name_of w (top_frame w).from ≡ l.name
+  level_name = front_second w.names l.under l.name (top_frame w).from (ap (λ f. f.from) top_level) h.names
 
   -- the end tag
-  end_is : end_of w t.from ≡ end_bytes w.indentation (length ls) l
+  end_is : end_of w (top_frame w).from ≡ end_bytes w.indentation (length ls) l
   end_is =
       let i = w.indentation in
-      let flag : (top_frame w).flag ≡ l.body.flag = ap (λ f. f.flag) (sym e ∙ top_level) in
+      let flag : (top_frame w).flag ≡ l.body.flag = ap (λ f. f.flag) top_level in
       let around : w.records - 1 ≡ length ls = omega (arith, h.records) in
-      ap (λ g. bytes_of_mark i (less_than (g && not w.wordy) (w.records - 1)) ++ (codes "/" ++ (name_of w t.from ++ codes ">"))) flag
-      ∙ ap (λ x. bytes_of_mark i (less_than (l.body.flag && not x) (w.records - 1)) ++ (codes "/" ++ (name_of w t.from ++ codes ">"))) h.wordy
-      ∙ ap (λ d. bytes_of_mark i (less_than (l.body.flag && not l.body.wordy) d) ++ (codes "/" ++ (name_of w t.from ++ codes ">"))) around
+      ap (λ g. bytes_of_mark i (less_than (g && not w.wordy) (w.records - 1)) ++ (codes "/" ++ (name_of w (top_frame w).from ++ codes ">"))) flag
+      ∙ ap (λ x. bytes_of_mark i (less_than (l.body.flag && not x) (w.records - 1)) ++ (codes "/" ++ (name_of w (top_frame w).from ++ codes ">"))) h.wordy
+      ∙ ap (λ d. bytes_of_mark i (less_than (l.body.flag && not l.body.wordy) d) ++ (codes "/" ++ (name_of w (top_frame w).from ++ codes ">"))) around
       ∙ ap (λ n. bytes_of_mark i (less_than (l.body.flag && not l.body.wordy) (length ls)) ++ (codes "/" ++ (n ++ codes ">"))) level_name
 
-  tag_is : t.tag ≡ length (tag_end w.indentation l ls [])
+  tag_is : (top_frame w).tag ≡ length (tag_end w.indentation l ls [])
   tag_is = ap (λ f. f.tag) top_level
 
   -- the tag, and then the children
-  used_is : w.stage.used ≡ t.tag + length (flatten w.indentation l.body.kids)
+  used_is : w.stage.used ≡ (top_frame w).tag + length (flatten w.indentation l.body.kids)
   used_is =
       let i = w.indentation in
       omega (arith, tag_is, front_length w.stage (stage i (between l ls)) h.stage, length-append (tag_end i l ls []) (flatten i l.body.kids))
 
   -- no child bytes
-  pub shuts_empty : w.stage.used ≤ t.tag → Shuts w l ls 0 (shut w.form (name_of w t.from)) w.stage
+  pub shuts_empty : w.stage.used ≤ (top_frame w).tag → Shuts w l ls 0 (shut w.form (name_of w (top_frame w).from)) w.stage
   shuts_empty low =
       let i = w.indentation in
       let none = kids_none i l.body.kids (omega (arith, used_is, low)) in
-      let bs = shut w.form (name_of w t.from) in
+      let bs = shut w.form (name_of w (top_frame w).from) in
       let whole : stage i (between l ls) ++ bs ≡ below i ls ++ flatten i (closed_record w.form (length ls) (start ls) l) =
       ap (λ n. stage i (between l ls) ++ shut w.form n) level_name ∙ closed_empty i w.form l ls none in
       let len = front_length w.stage (stage i (between l ls)) h.stage in
@@ -73,26 +73,26 @@ module _ (w : Mem) (l : Level) (ls : List Outer) (t : Frame) (e : t ≡ top_fram
       }
 
   -- children between two tags
-  pub shuts_full : t.tag < w.stage.used → Shuts w l ls 1 (end_of w t.from) (stage_shut t.tag w)
+  pub shuts_full : (top_frame w).tag < w.stage.used → Shuts w l ls 1 (end_of w (top_frame w).from) (stage_shut (top_frame w).tag w)
   shuts_full high =
       let i = w.indentation in
       let kids = flatten i l.body.kids in
       let some = kids_some i l.body.kids (omega (arith, used_is, high)) in
-      let bs = end_of w t.from in
-      let b = stage_shut t.tag w in
+      let bs = end_of w (top_frame w).from in
+      let b = stage_shut (top_frame w).tag w in
       let inner : List ℕ = tag_end i l ls [] ++ (codes ">" ++ kids) in
       let whole : inner ++ bs ≡ below i ls ++ flatten i (closed_record w.form (length ls) (start ls) l) =
       ap (λ z. inner ++ z) end_is ∙ closed_full i w.form l ls some in
       let a = length-append inner bs in
       let d = length-append (tag_end i l ls []) (codes ">" ++ kids) in
-      let long : w.stage.used + 1 ≤ length w.stage.all → length b.all ≡ length w.stage.all = λ r. length-opened w.stage.all (codes ">") t.tag w.stage.used (omega (arith, high)) r in
+      let long : w.stage.used + 1 ≤ length w.stage.all → length b.all ≡ length w.stage.all = λ r. length-opened w.stage.all (codes ">") (top_frame w).tag w.stage.used (omega (arith, high)) r in
       record {
         size = omega (arith, ap length (stage_close i w.form l ls ∙ sym whole), a, d, used_is, tag_is);
         written = λ fits.
             front_as (grown b bs) (inner ++ bs) (below i ls ++ flatten i (closed_record w.form (length ls) (start ls) l)) whole
-            (front_grown b inner bs (omega (arith, fits, long (omega (arith, fits)))) (front_opened w.stage (tag_end i l ls []) kids (codes ">") t.tag tag_is (omega (arith, fits)) h.stage));
+            (front_grown b inner bs (omega (arith, fits, long (omega (arith, fits)))) (front_opened w.stage (tag_end i l ls []) kids (codes ">") (top_frame w).tag tag_is (omega (arith, fits)) h.stage));
         past = λ fits.
-            past_then w.stage b (grown b bs) (omega arith) (past_opened w.stage (codes ">") t.tag (omega (arith, high)) (omega (arith, fits)))
+            past_then w.stage b (grown b bs) (omega arith) (past_opened w.stage (codes ">") (top_frame w).tag (omega (arith, high)) (omega (arith, fits)))
             (past_grown b bs (omega (arith, fits, long (omega (arith, fits)))));
       }
 

@@ -18,56 +18,56 @@ use style::WriteResult;
 fn leave_record(core: &mut Core<'_>)
     requires open { 0 < core.old.frames.used }
     requires within { core.old.frames.used ≤ length core.old.frames.at.now }
-    requires record { 0 < core.old.records }
+    requires records { 0 < core.old.records }
     ensures left { Left (mem core.old) (mem core.new) }
 {
     core.wordy = false;
-    if core.frames.used == 1 {
-        core.frames.used = 0;
+    core.frames.used -= 1;
+    if core.frames.used == 0 {
         core.names.used = 0;
         core.records = 0;
         core.place = Place::Complete;
     } else {
-        core.frames.used -= 1;
         core.records -= 1;
         core.settle(WriteResult::Element);
     }
 }
 
-// The end of a record without child bytes; its name begins at `from` on the name stack.
-fn end_empty(core: &mut Core<'_>, from: usize) -> Result<(), Refusal>
+// The end of a record without child bytes.
+fn end_empty(core: &mut Core<'_>) -> Result<(), Refusal>
     requires safe { Safe (mem core.old) }
     requires open { 0 < core.old.frames.used }
-    requires record { 0 < core.old.records }
-    requires name { from ≤ core.old.names.used }
-    ensures ends { Ends result 0 (shut (mem core.old).form (name_of (mem core.old) from)) (mem core.old).stage (mem core.old) (mem core.new) }
+    requires records { 0 < core.old.records }
+    requires name { (top_frame (mem core.old)).from ≤ core.old.names.used }
+    ensures ends { Ends result 0 (shut (mem core.old).form (name_of (mem core.old) (top_frame (mem core.old)).from)) (mem core.old).stage (mem core.old) (mem core.new) }
 {
     let form = core.style.empty_elements();
+    let top = core.top();
     let end = core.names.used;
-    let name = core.names.part(from, end);
+    let name = core.names.part(top.from, end);
     put(&mut core.stage, &shut(form, name))?;
     leave_record(core);
     Ok(())
 }
 
-// The end of a record with child bytes; its start tag ends at `tag`.
-fn end_full(core: &mut Core<'_>, tag: usize, from: usize) -> Result<(), Refusal>
+// The end of a record with child bytes.
+fn end_full(core: &mut Core<'_>) -> Result<(), Refusal>
     requires safe { Safe (mem core.old) }
     requires open { 0 < core.old.frames.used }
-    requires record { 0 < core.old.records }
-    requires name { from ≤ core.old.names.used }
-    requires tag { tag ≤ core.old.stage.used }
-    ensures ends { Ends result 1 (end_of (mem core.old) from) (stage_shut tag (mem core.old)) (mem core.old) (mem core.new) }
+    requires records { 0 < core.old.records }
+    requires name { (top_frame (mem core.old)).from ≤ core.old.names.used }
+    requires tag { (top_frame (mem core.old)).tag ≤ core.old.stage.used }
+    ensures ends { Ends result 1 (end_of (mem core.old) (top_frame (mem core.old)).from) (stage_shut (top_frame (mem core.old)).tag (mem core.old)) (mem core.old) (mem core.new) }
 {
-    let indented = core.top().flag & !core.wordy;
-    let lead = core.lead(indented, core.records - 1);
+    let top = core.top();
+    let lead = core.lead(top.flag & !core.wordy, core.records - 1);
     let end = core.names.used;
-    let name = core.names.part(from, end);
+    let name = core.names.part(top.from, end);
     let end_tag = (lead, (*b"/", (name, *b">")));
     if !core.stage.fits(&(*b">", end_tag)) {
         return Err(Refusal::Stage);
     }
-    core.stage.insert(tag, b">");
+    core.stage.insert(top.tag, b">");
     core.stage.append(&end_tag);
     leave_record(core);
     Ok(())
@@ -78,14 +78,13 @@ pub fn end_record(core: &mut Core<'_>) -> Result<(), Refusal>
     requires safe { Safe (mem core.old) }
     requires place { core.old.place ≡ FieldPlace }
     requires open { 0 < core.old.frames.used }
-    requires record { 0 < core.old.records }
+    requires records { 0 < core.old.records }
     requires name { (top_frame (mem core.old)).from ≤ core.old.names.used }
     ensures does { (room : ℕ) → Does call_end room result (mem core.old) (mem core.new) }
 {
-    let top = core.top();
-    if top.tag < core.stage.used {
-        end_full(core, top.tag, top.from)
+    if core.top().tag < core.stage.used {
+        end_full(core)
     } else {
-        end_empty(core, top.from)
+        end_empty(core)
     }
 }
