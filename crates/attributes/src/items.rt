@@ -1,10 +1,9 @@
 // The items of a list that is an attribute's value, and its end: the record's frame stands just below the list's.
-ghost use Rattle.std.specs.Prelude.{◌≡◌, ℕ, ◌-◌, ◌<◌, ◌≤◌, Bool};
+ghost use Rattle.std.specs.Prelude.{◌≡◌, ℕ, ◌-◌, ◌<◌, ◌≤◌};
 ghost use Rattle.model.specs.declared.place.Place.TheVariants.{AttributeItem as AttributeItemPlace};
-ghost use Rattle.model.specs.Calls.{Rule, call_value, call_end};
+ghost use Rattle.model.specs.Calls.{Rule, call_value, call_end, val_text, val_variant};
 ghost use Rattle.engine.specs.Memory.{mem, Safe, frame_at};
 ghost use Rattle.engine.specs.Lays.{Does};
-ghost use Rattle.attributes.specs.Inserts.{string_value};
 
 use crate::tag::insert;
 use engine::{Core, check_bytes};
@@ -23,7 +22,8 @@ pub fn string_at_attribute_item<R: EscapeRule>(
     requires open { 1 < core.old.frames.used }
     requires tag { (frame_at (mem core.old) (core.old.frames.used - 2)).tag ≤ core.old.stage.used }
     requires place { core.old.place ≡ AttributeItemPlace written }
-    ensures does { (room : ℕ) (ρ : Rule) → ρ.chooses ≡ R.chooses string.entry.rule.now → (text : Bool) → Does (call_value (string_value text ρ string.entry.value.now)) room result (mem core.old) (mem core.new) }
+    ensures text { (room : ℕ) (ρ : Rule) → ρ.chooses ≡ R.chooses string.entry.rule.now → Does (call_value (val_text ρ string.entry.value.now)) room result (mem core.old) (mem core.new) }
+    ensures variant { (room : ℕ) (ρ : Rule) → ρ.chooses ≡ R.chooses string.entry.rule.now → Does (call_value (val_variant ρ string.entry.value.now)) room result (mem core.old) (mem core.new) }
 {
     check_bytes(string.value)?;
     if string.value.is_empty() {

@@ -1,5 +1,5 @@
 -- What every memory that holds a model gives: the numbers that the steps rely on. Assumes nothing.
-use Rattle.std.proofs.Common.{◌≡◌, ℕ, ◌-◌, ◌<◌, ◌≤◌, Bool, List, [], ◌∷◌, ◌++◌, length, Option, arith}
+use Rattle.std.proofs.Common.{◌≡◌, ℕ, ◌-◌, ◌<◌, ◌≤◌, Bool, ◌⊎◌, List, [], ◌∷◌, ◌++◌, length, Option, ⊎_elim, arith}
 use mathlib.Core.Logic.{∥∥₁_elim}
 use native.Mathlib.Bridge.{le_prop}
 use Rattle.std.proofs.lemmas.List.{length-append}
@@ -86,6 +86,9 @@ module _ (w : Mem) (s : Sound w) where
 
   pub simple_is_open : w.place ≡ Simple → 0 < w.frames.used
   simple_is_open e = always w 1 w.frames.used s (λ m lay. on_simple (λ x. 0 < w.frames.used) w m lay e (λ rs l ls y. open_inside simple rs l ls w y.holds))
+
+  pub words_are_open : (w.place ≡ Text) ⊎ (w.place ≡ Simple) → 0 < w.frames.used
+  words_are_open = ⊎_elim text_is_open simple_is_open
 
   pub attribute_is_open : w.place ≡ Attribute → 0 < w.frames.used
   attribute_is_open e = always w 1 w.frames.used s (λ m lay. attribute_open m w lay e)

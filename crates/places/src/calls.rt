@@ -21,7 +21,7 @@ use attributes::{
 };
 use closing::end_record;
 use engine::{Core, check_bytes};
-use fields::{field, string_item};
+use fields::{field, string_as_item};
 use model::Place;
 use nests::{
     end_at_content, end_at_element, end_text_list, row_as_list, row_at_content, row_at_element,
@@ -121,23 +121,50 @@ pub fn take_value<R: EscapeRule>(core: &mut Core<'_>, value: &Value<'_, R>) -> R
         }
         (Place::Text | Place::Simple, Value::Text(string, rule))
         | (Place::Simple, Value::Variant(string, rule)) => {
-            string_as_words(core, Unescaped { value: string, rule })
+            string_as_words(
+                core,
+                Unescaped {
+                    value: string,
+                    rule,
+                },
+            )
         }
         (Place::Text | Place::Simple, Value::Nothing) => none_as_words(core),
         (Place::Text | Place::Simple, Value::Row) => row_as_list(core),
 
         (Place::Attribute, Value::Text(string, rule) | Value::Variant(string, rule)) => {
-            string_at_attribute(core, Unescaped { value: string, rule })
+            string_at_attribute(
+                core,
+                Unescaped {
+                    value: string,
+                    rule,
+                },
+            )
         }
         (Place::Attribute, Value::Nothing) => none_at_attribute(core),
         (Place::Attribute, Value::Row) => row_at_attribute(core),
 
         (Place::TextItem(written), Value::Text(string, rule) | Value::Variant(string, rule)) => {
-            string_item(core, written, Unescaped { value: string, rule })
+            string_as_item(
+                core,
+                written,
+                Unescaped {
+                    value: string,
+                    rule,
+                },
+            )
         }
-        (Place::AttributeItem(written), Value::Text(string, rule) | Value::Variant(string, rule)) => {
-            string_at_attribute_item(core, written, Unescaped { value: string, rule })
-        }
+        (Place::AttributeItem(written), Value::Text(string, rule) | Value::Variant(string, rule)) =>
+            {
+                string_at_attribute_item(
+                    core,
+                    written,
+                    Unescaped {
+                        value: string,
+                        rule,
+                    },
+                )
+            }
 
         (Place::Element(_), Value::Wrapped(_) | Value::VariantRow(_) | Value::VariantRecord(_)) =>
             misfit(value),

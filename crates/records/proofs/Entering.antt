@@ -104,6 +104,11 @@ module _ (room : ℕ) (w : Mem) (from : ℕ) (q : List ℕ) (safe : Safe w) (at 
   clear_there : (u n : List ℕ) (rs : List Row) (l : Level) (ls : List Outer) → Clear (call_value (val_record q)) (inside (element u n) rs l ls)
   clear_there u n rs l ls = record { order = refl; bytes = not_from_true (utf8 q) ok; shape = refl; text = refl; name = refl }
 
+  -- no frame is free
+  pub element_record_deep : length w.frames.all ≤ w.frames.used → Does (call_value (val_record q)) room (Err Depth) w w
+  element_record_deep full m lay = on_element (λ x. Told (verdict (setting w) room (call_value (val_record q)) x) (Err Depth) w w) w from m lay at (λ u n rs l ls d z.
+      told_depth w room (call_value (val_record q)) (inside (element u n) rs l ls) (clear_there u n rs l ls) safe z.holds (omega (arith, z.holds.names.fits)) refl full)
+
   module _ (free : w.frames.used < length w.frames.all) where
     -- its tag does not fit
     pub element_record_full : (e : Refusal) (b : Buf ℕ) → Put (Err e) (tag_start w (name_of w from)) w.stage b → Does (call_value (val_record q)) room (Err e) w (with_stage w b)
@@ -140,6 +145,27 @@ enters c p n w u (inl e) rs l ls =
     subst (λ x. Enters x p n w rs l ls) (sym e) (record { names = record { order = refl; bytes = not_from_true (utf8 n) u; shape = refl; text = refl; fault = refl; brought = refl; handed = refl }; takes = refl; goes = refl })
 enters c p n w u (inr e) rs l ls =
     subst (λ x. Enters x p n w rs l ls) (sym e.0) (record { names = record { order = refl; bytes = not_from_true (utf8 n) u; shape = e.1; text = refl; fault = refl; brought = refl; handed = refl }; takes = refl; goes = refl })
+
+-- at a content place
+module _ (room : ℕ) (w : Mem) (n : List ℕ) (p : Bool) (safe : Safe w) (at : w.place ≡ Content p) (u : utf8 n ≡ true) where
+  -- no record has the name for text
+  pub variant_record_shape : is_text_name n ≡ true → Does (call_value (val_variant_record n)) room (Err Shape) w w
+  variant_record_shape t m lay = on_content (λ x. Told (verdict (setting w) room (call_value (val_variant_record n)) x) (Err Shape) w w) w p m lay at (λ rs l ls z.
+      told_shape w room (call_value (val_variant_record n)) (inside (content p) rs l ls) refl (not_from_true (utf8 n) u) t)
+
+  module _ (c : Value) (is : RecordValue c n) where
+    -- it is no name, or there is no room for it
+    pub enter_misnamed : (e : Refusal) → Named (Err e) n w → Does (call_value c) room (Err e) w w
+    enter_misnamed e = content_misnamed room c n w p e (λ rs l ls. (enters c p n w u is rs l ls).names) safe at
+
+    module _ (y : Named (Ok tt) n w) where
+      -- no frame is free
+      pub enter_deep : length w.frames.all ≤ w.frames.used → Does (call_value c) room (Err Depth) w w
+      enter_deep full m lay = on_content (λ x. Told (verdict (setting w) room (call_value c) x) (Err Depth) w w) w p m lay at (λ rs l ls z.
+          let here = inside (content p) rs l ls in
+          let k = enters c p n w u is rs l ls in
+          let h = z.holds in
+          told_depth w room (call_value c) here (names_clear room (call_value c) here n w k.names safe h y.0) safe h (names_fit room (call_value c) here n w k.names safe h y.1) k.takes full)
 
       module _ (free : w.frames.used < length w.frames.all) where
         -- its tag does not fit

@@ -114,6 +114,19 @@ module _ (c : Value) (n : List ℕ) (p : Bool) (w : Mem) (a : Announces c n) (u 
 same_named : (g h : Bool) (k l a b : ℕ) → g ≡ h → k ≡ l → a ≡ b → named_frame g k a ≡ named_frame h l b
 same_named g h k l a b p q r = cc
 
+module _ (room : ℕ) (w v : Mem) (n : List ℕ) (p : Bool) (safe : Safe w) (at : w.place ≡ Content p) (u : utf8 n ≡ true) where
+  -- a text that is still to come
+  pub wrapped_text : is_text_name n ≡ true → p ≡ true → v ≡ placed Simple w → Does (call_value (val_wrapped n)) room (Ok tt) w v
+  wrapped_text t q is m lay = on_content (λ x. Told (verdict (setting w) room (call_value (val_wrapped n)) x) (Ok tt) w v) w p m lay at (λ rs l ls z.
+      let c = call_value (val_wrapped n) in
+      let h = z.holds in
+      let goes : next w.form c (inside (content p) rs l ls) ≡ inside simple rs l ls = ap (λ b. or_stay (inside (content p) rs l ls) (moved_if rs l ls (Some (cond b (on simple l.body) (on (element (stack rs l) n) l.body))))) t in
+      let there : Lays (inside simple rs l ls) (placed Simple w) = lays_placed (inside simple rs l ls) Simple w refl (record { stage = h.stage; names = h.names; frames = h.frames; records = h.records; wordy = h.wordy; fit = h.fit }) in
+      let same : Beyond w (placed Simple w) = record { stage = past_same w.stage; names = past_same w.names; frames = past_same w.frames; form = refl; indentation = refl } in
+      told_small w room c (inside (content p) rs l ls) v (announced_text (val_wrapped n) n p w (wrapped_announces n) u rs l ls t q)
+      (record { brought = no_name (val_wrapped n) n p w (wrapped_announces n) u rs l ls t; takes = refl; handed = refl }) safe h
+      (subst (λ x. Lays x v) (sym goes) (subst (λ y. Lays (inside simple rs l ls) y) (sym is) there)) (subst (λ y. Beyond w y) (sym is) same))
+
   -- a list, which is one text
   pub variants_list : (r : Result (Unit {0}) Refusal) → is_text_name n ≡ true → p ≡ true → Pushes r list_frame (TextItem false) w v → Does (call_value (val_variant_row n)) room r w v
   variants_list r t q y m lay = on_content (λ x. Told (verdict (setting w) room (call_value (val_variant_row n)) x) r w v) w p m lay at (λ rs l ls z.
@@ -137,6 +150,15 @@ same_named g h k l a b p q r = cc
         let same : Beyond w (placed (Element w.names.used) (name_put n w)) = record { stage = past_same w.stage; names = past_grown w.names n y.1; frames = past_same w.frames; form = refl; indentation = refl } in
         told_ok w room c here v (names_clear room c here n w k safe h y.0) safe h (names_fit room c here n w k safe h y.1) (depth_unasked w room c here refl) (sink_unasked w room c here refl)
         (subst (λ x. Lays x v) (sym goes) (subst (λ x. Lays there x) (sym is) laid)) (subst (λ x. Beyond w x) (sym is) same))
+
+    -- no frame is free for a row
+    pub variants_deep : Named (Ok tt) n w → length w.frames.all ≤ w.frames.used → Does (call_value (val_variant_row n)) room (Err Depth) w w
+    variants_deep y full m lay = on_content (λ x. Told (verdict (setting w) room (call_value (val_variant_row n)) x) (Err Depth) w w) w p m lay at (λ rs l ls z.
+        let c = call_value (val_variant_row n) in
+        let here = inside (content p) rs l ls in
+        let k = announced_name (val_variant_row n) n p w (row_announces n) u rs l ls t in
+        let h = z.holds in
+        told_depth w room c here (names_clear room c here n w k safe h y.0) safe h (names_fit room c here n w k safe h y.1) refl full)
 
     -- a row of elements
     pub variants_ok : Named (Ok tt) n w → w.frames.used < length w.frames.all → v ≡ placed (Element w.names.used) (pushed (named_frame (top_frame w).flag (w.names.used + length n) w.names.used) (name_put n w)) → Does (call_value (val_variant_row n)) room (Ok tt) w v

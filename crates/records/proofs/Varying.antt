@@ -37,6 +37,15 @@ module _ (room : ℕ) (ρ : Rule) (n : List ℕ) (p : Bool) (w : Mem) (safe : Sa
       content_silent (val_variant ρ n) room w v safe u refl p at refl refl (ap (λ b. cond b None (name_fault n)) t) refl Nothing
       (λ rs l ls. variant_by w.form (suc (length ls)) rs l.body (stack rs l) ρ n true t) is
 
+  module _ (t : is_text_name n ≡ false) where
+    -- no name
+    pub variant_misnamed : (e : Refusal) → CheckedName (Err e) n → Does (call_value (val_variant ρ n)) room (Err e) w w
+    variant_misnamed e a m lay =
+        on_content (λ x. Told (verdict (setting w) room (call_value (val_variant ρ n)) x) (Err e) w w) w p m lay at
+        (λ rs l ls z.
+        subst (λ x. Told (verdict (setting w) room (call_value (val_variant ρ n)) (inside (content p) rs l ls)) (Err x) w w) (sym a.1)
+        (told_name w room (call_value (val_variant ρ n)) (inside (content p) rs l ls) (offset e) refl (not_from_true (utf8 n) u) refl refl (ap (λ b. cond b None (name_fault n)) t ∙ a.0)))
+
     -- an empty element
     pub variant_told : (v : Mem) (res : Result (Unit {0}) Refusal) → name_fault n ≡ None → Writes res (empty_bytes w n) element_result false w v → Does (call_value (val_variant ρ n)) room res w v
     variant_told v res e h m lay =
