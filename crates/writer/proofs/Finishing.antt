@@ -12,12 +12,11 @@ use Rattle.model.specs.Strings.{utf8}
 use Rattle.model.specs.Calls.{call_finish}
 use Rattle.model.specs.Model.{complete}
 use Rattle.model.specs.Table.{verdict, stage_full}
-use Rattle.engine.specs.Memory.{Buf, Mem, Safe}
+use Rattle.engine.specs.Memory.{emptied, Buf, Mem, Safe}
 use Rattle.engine.specs.Lays.{Lays, Beyond, setting, Told}
 use Rattle.engine.proofs.Fronts.{past_cut}
 use Rattle.engine.proofs.Spots.{on_complete}
 use Rattle.engine.proofs.Telling.{Clear, told_ok, told_sink, depth_unasked}
-use Rattle.rows.specs.Roots.{emptied}
 use Rattle.rows.proofs.Rooting.{lays_idle}
 use Rattle.rows.proofs.Told.{well_formed_none}
 use Rattle.writer.specs.Served.{Served, Serves, session}

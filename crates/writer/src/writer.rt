@@ -1,7 +1,7 @@
 // The writer and what is always true of it.
-ghost use Rattle.std.specs.Prelude.{◌≡◌, ◌≤◌, length, take};
+ghost use Rattle.std.specs.Prelude.{◌≡◌, take};
 ghost use Rattle.engine.specs.Memory.{mem};
-ghost use Rattle.places.specs.Sound.{Sound};
+ghost use Rattle.places.specs.Sound.{Sound, Sizes};
 ghost use Rattle.writer.specs.Starting.{starting};
 
 use engine::Core;
@@ -24,9 +24,7 @@ const FRAMES: usize = 64;
 pub struct Writer<'a> {
     core: Core<'a>,
     ghost sound: { Sound (mem core) },
-    ghost stage: { length core.stage.at.now ≤ 65536 },
-    ghost names: { length core.names.at.now ≤ 4096 },
-    ghost frames: { length core.frames.at.now ≤ 64 },
+    ghost sizes: { Sizes (mem core) },
 }
 
 impl<'a> Writer<'a> {
