@@ -3,28 +3,24 @@ use Rattle.std.proofs.Common.{◌≡◌, ℕ, ◌+◌, ◌<◌, ◌≤◌, Bool,
 use Rattle.std.proofs.lemmas.List.{append-nil, length-append}
 use Rattle.std.proofs.lemmas.Bool.{not_from_true}
 use Rattle.refusal.specs.declared.Refusal.{Refusal}
-use Rattle.refusal.specs.declared.Refusal.TheVariants.{Shape, Depth, Stage}
-use Rattle.memory.proofs.Laying.{length-laid}
 use Rattle.model.specs.declared.place.Place.TheVariants.{Element, Content}
-use Rattle.model.specs.declared.frame.Frame.{Frame}
 use Rattle.model.specs.Strings.{utf8}
-use Rattle.model.specs.Calls.{Call, call_value, Value, val_record, val_variant_record, is_text_name}
+use Rattle.model.specs.Calls.{call_value, Value, val_record}
 use Rattle.model.specs.Marks.{bytes_of_mark, flatten}
-use Rattle.model.specs.Model.{Level, Row, Outer, element, content, State, between, inside, stack, start}
+use Rattle.model.specs.Model.{Level, Row, Outer, element, content, between, inside, stack, start}
 use Rattle.model.specs.Step.{new_level}
 use Rattle.model.specs.Layout.{stage, below, open_tag, tag_end, frames as frames_of, record_frame, outer_frames, row_frames}
 use Rattle.model.specs.Frames.{new_frame}
-use Rattle.model.specs.Table.{verdict, next, name_brought, takes_frame, value_opens}
+use Rattle.model.specs.Table.{verdict, next, value_opens}
 use Rattle.engine.specs.Memory.{Buf, Mem, Safe, Put, with_stage, name_put, pushed, appended}
-use Rattle.engine.specs.Lays.{Front, Holds, Lays, Beyond, setting, Told, Does}
-use Rattle.engine.proofs.Appending.{appended-++}
+use Rattle.engine.specs.Lays.{Holds, Lays, Beyond, setting, Told, Does}
 use Rattle.engine.proofs.Fronts.{front_length, front_as, front_grown, front_push, past_same, past_grown, past_set}
-use Rattle.engine.proofs.Telling.{Clear, told_shape, told_depth, told_stage, told_ok, depth_is_free, sink_unasked}
+use Rattle.engine.proofs.Telling.{Clear, told_stage, told_ok, depth_is_free, sink_unasked}
 use Rattle.engine.proofs.Spots.{on_element, on_content}
 use Rattle.rows.specs.Pieces.{lead_of, name_of}
 use Rattle.rows.proofs.Tagging.{lead_is_start, name_is}
 use Rattle.records.specs.Names.{Named, begun, RecordValue}
-use Rattle.records.proofs.Naming.{Names, names_clear, names_fit, holds_name, content_misnamed}
+use Rattle.records.proofs.Naming.{Names, names_clear, names_fit, holds_name}
 
 -- the bytes of a tag of this name that opens
 abbrev pub tag_start : Mem → List ℕ → List ℕ
@@ -104,11 +100,6 @@ module _ (room : ℕ) (w : Mem) (from : ℕ) (q : List ℕ) (safe : Safe w) (at 
   clear_there : (u n : List ℕ) (rs : List Row) (l : Level) (ls : List Outer) → Clear (call_value (val_record q)) (inside (element u n) rs l ls)
   clear_there u n rs l ls = record { order = refl; bytes = not_from_true (utf8 q) ok; shape = refl; text = refl; name = refl }
 
-  -- no frame is free
-  pub element_record_deep : length w.frames.all ≤ w.frames.used → Does (call_value (val_record q)) room (Err Depth) w w
-  element_record_deep full m lay = on_element (λ x. Told (verdict (setting w) room (call_value (val_record q)) x) (Err Depth) w w) w from m lay at (λ u n rs l ls d z.
-      told_depth w room (call_value (val_record q)) (inside (element u n) rs l ls) (clear_there u n rs l ls) safe z.holds (omega (arith, z.holds.names.fits)) refl full)
-
   module _ (free : w.frames.used < length w.frames.all) where
     -- its tag does not fit
     pub element_record_full : (e : Refusal) (b : Buf ℕ) → Put (Err e) (tag_start w (name_of w from)) w.stage b → Does (call_value (val_record q)) room (Err e) w (with_stage w b)
@@ -148,25 +139,8 @@ enters c p n w u (inr e) rs l ls =
 
 -- at a content place
 module _ (room : ℕ) (w : Mem) (n : List ℕ) (p : Bool) (safe : Safe w) (at : w.place ≡ Content p) (u : utf8 n ≡ true) where
-  -- no record has the name for text
-  pub variant_record_shape : is_text_name n ≡ true → Does (call_value (val_variant_record n)) room (Err Shape) w w
-  variant_record_shape t m lay = on_content (λ x. Told (verdict (setting w) room (call_value (val_variant_record n)) x) (Err Shape) w w) w p m lay at (λ rs l ls z.
-      told_shape w room (call_value (val_variant_record n)) (inside (content p) rs l ls) refl (not_from_true (utf8 n) u) t)
-
   module _ (c : Value) (is : RecordValue c n) where
-    -- it is no name, or there is no room for it
-    pub enter_misnamed : (e : Refusal) → Named (Err e) n w → Does (call_value c) room (Err e) w w
-    enter_misnamed e = content_misnamed room c n w p e (λ rs l ls. (enters c p n w u is rs l ls).names) safe at
-
     module _ (y : Named (Ok tt) n w) where
-      -- no frame is free
-      pub enter_deep : length w.frames.all ≤ w.frames.used → Does (call_value c) room (Err Depth) w w
-      enter_deep full m lay = on_content (λ x. Told (verdict (setting w) room (call_value c) x) (Err Depth) w w) w p m lay at (λ rs l ls z.
-          let here = inside (content p) rs l ls in
-          let k = enters c p n w u is rs l ls in
-          let h = z.holds in
-          told_depth w room (call_value c) here (names_clear room (call_value c) here n w k.names safe h y.0) safe h (names_fit room (call_value c) here n w k.names safe h y.1) k.takes full)
-
       module _ (free : w.frames.used < length w.frames.all) where
         -- its tag does not fit
         pub enter_full : (e : Refusal) (b : Buf ℕ) → Put (Err e) (tag_start w n) w.stage b → Does (call_value c) room (Err e) w (with_stage w b)

@@ -1,12 +1,10 @@
 -- Values at a content place that bring a name: wrapped values and rows of variants. Assumes nothing.
-use Rattle.std.proofs.Common.{◌≡◌, ℕ, ◌+◌, ◌<◌, ◌≤◌, Bool, true, false, cond, not, List, [], ◌∷◌, ◌++◌, length, Some, None, Ok, Err, Result, sym, refl, ap, ◌∙◌, subst, inl, inr, arith}
-use Rattle.std.proofs.lemmas.Bool.{not_from_true, and_from, and_left, and_right}
+use Rattle.std.proofs.Common.{◌≡◌, ℕ, ◌+◌, ◌<◌, ◌≤◌, Bool, true, false, cond, not, List, [], ◌∷◌, ◌++◌, length, Some, None, Ok, Result, sym, refl, ap, ◌∙◌, subst, arith}
+use Rattle.std.proofs.lemmas.Bool.{not_from_true, and_left, and_right}
 use Rattle.refusal.specs.declared.Refusal.{Refusal}
-use Rattle.refusal.specs.declared.Refusal.TheVariants.{Bytes as BytesAt, Depth}
-use Rattle.refusal.specs.Refusals.{offset}
 use Rattle.xml.specs.Names.{name_fault}
-use Rattle.model.specs.declared.place.Place.TheVariants.{Element, Content, Simple, TextItem}
-use Rattle.model.specs.Strings.{utf8, whole}
+use Rattle.model.specs.declared.place.Place.TheVariants.{Element, Content, TextItem}
+use Rattle.model.specs.Strings.{utf8}
 use Rattle.model.specs.Calls.{Call, call_value, Value, val_wrapped, val_variant_row, is_text_name}
 use Rattle.model.specs.Model.{Level, Row, named_row, Outer, element, content, simple, words, State, inside, stack, flag}
 use Rattle.model.specs.Step.{on, opens_row, moved_if}
@@ -17,15 +15,14 @@ use Rattle.model.specs.Table.{verdict, next, or_stay, name_brought, handed, cont
 use Rattle.engine.specs.Memory.{Mem, Safe, pushed, placed, name_put, top_frame}
 use Rattle.engine.specs.Lays.{row_stacks, outer_stacks, Holds, Lays, Beyond, setting, Told, Does}
 use Rattle.engine.proofs.Fronts.{front_length, front_grown, begins_self, begins_more, past_same, past_grown}
-use Rattle.engine.proofs.Telling.{Clear, told_name, told_stack, told_depth, told_ok, told_small, depth_is_free, depth_unasked, sink_unasked}
+use Rattle.engine.proofs.Telling.{Clear, told_ok, depth_is_free, depth_unasked, sink_unasked}
 use Rattle.engine.proofs.Spots.{on_content}
 use Rattle.engine.proofs.Tops.{top_flag}
 use Rattle.nests.specs.Frames.{Pushes}
 use Rattle.nests.proofs.Leaving.{nested_rest}
 use Rattle.nests.proofs.Pushing.{lays_placed, holds_row, holds_list, beyond_push}
 use Rattle.nests.proofs.Rowing.{pushes_told}
-use Rattle.rows.proofs.Wording.{content_ill_formed, content_run_on}
-use Rattle.records.specs.Names.{Named, TextAnnounced}
+use Rattle.records.specs.Names.{Named}
 
 -- a call that brings this name to the name stack, and has passed the first four rows
 pub record Names (c : Call) (m : State) (n : List ℕ) (w : Mem) : Type 0 where
@@ -43,17 +40,6 @@ module _ (room : ℕ) (c : Call) (m : State) (n : List ℕ) (w : Mem) (k : Names
 
   pub names_fit : w.names.used + length n ≤ length w.names.all → w.names.used + length (name_brought c m) ≤ length w.names.all
   names_fit f = omega (arith, ap length k.brought, f)
-
-  -- it is no name, or there is no room for it
-  names_refused : (e : Refusal) → Named (Err e) n w → Told (verdict (setting w) room c m) (Err e) w w
-  names_refused e (inl a) = subst (λ x. Told (verdict (setting w) room c m) (Err x) w w) (sym a.1) (told_name w room c m (offset e) k.order k.bytes k.shape k.text (k.fault ∙ a.0))
-  names_refused e (inr b) = subst (λ x. Told (verdict (setting w) room c m) (Err x) w w) (sym b.1) (told_stack w room c m (names_clear b.0) safe h (omega (arith, ap length k.brought, b.2)))
-
--- at a content place
-pub content_misnamed : (room : ℕ) (c : Value) (n : List ℕ) (w : Mem) (p : Bool) (e : Refusal) → ((rs : List Row) (l : Level) (ls : List Outer) → Names (call_value c) (inside (content p) rs l ls) n w) → Safe w → w.place ≡ Content p → Named (Err e) n w → Does (call_value c) room (Err e) w w
-content_misnamed room c n w p e k safe at y m lay =
-    on_content (λ x. Told (verdict (setting w) room (call_value c) x) (Err e) w w) w p m lay at
-    (λ rs l ls z. names_refused room (call_value c) (inside (content p) rs l ls) n w (k rs l ls) safe z.holds e y)
 
 -- the name of an element that is still to come
 pub holds_name : (p : Bool) (rs : List Row) (l : Level) (ls : List Outer) (w : Mem) (n : List ℕ) → w.names.used + length n ≤ length w.names.all → Holds (inside (content p) rs l ls) w → Holds (inside (element (stack rs l) n) rs l ls) (name_put n w)
@@ -80,13 +66,6 @@ wrapped_announces n = record { string = refl; shape = refl; text = refl; fault =
 
 pub row_announces : (n : List ℕ) → Announces (val_variant_row n) n
 row_announces n = record { string = refl; shape = refl; text = refl; fault = refl; name = refl }
-
--- its bytes are not well-formed, or it is a text where none may stand
-pub announced_refused : (c : Value) (n : List ℕ) (p : Bool) (room : ℕ) (w : Mem) (e : Refusal) → Announces c n → w.place ≡ Content p → TextAnnounced (Err e) n p → Does (call_value c) room (Err e) w w
-announced_refused c n p room w e a at (inl bad) = content_ill_formed c room w e (ap utf8 a.string ∙ bad.0) (bad.1 ∙ ap (λ s. BytesAt (whole s)) (sym a.string)) p at
-announced_refused c n p room w e a at (inr run) =
-    subst (λ x. Does (call_value c) room (Err x) w w) (sym run.0)
-    (content_run_on c room w p (ap utf8 a.string ∙ run.1) a.shape (and_from (is_text c) (not p) (a.text ∙ run.2) (ap not run.3)) at)
 
 module _ (c : Value) (n : List ℕ) (p : Bool) (w : Mem) (a : Announces c n) (u : utf8 n ≡ true) (rs : List Row) (l : Level) (ls : List Outer) where
   fine : ill_formed (call_value c) ≡ false
@@ -115,18 +94,6 @@ same_named : (g h : Bool) (k l a b : ℕ) → g ≡ h → k ≡ l → a ≡ b �
 same_named g h k l a b p q r = cc
 
 module _ (room : ℕ) (w v : Mem) (n : List ℕ) (p : Bool) (safe : Safe w) (at : w.place ≡ Content p) (u : utf8 n ≡ true) where
-  -- a text that is still to come
-  pub wrapped_text : is_text_name n ≡ true → p ≡ true → v ≡ placed Simple w → Does (call_value (val_wrapped n)) room (Ok tt) w v
-  wrapped_text t q is m lay = on_content (λ x. Told (verdict (setting w) room (call_value (val_wrapped n)) x) (Ok tt) w v) w p m lay at (λ rs l ls z.
-      let c = call_value (val_wrapped n) in
-      let h = z.holds in
-      let goes : next w.form c (inside (content p) rs l ls) ≡ inside simple rs l ls = ap (λ b. or_stay (inside (content p) rs l ls) (moved_if rs l ls (Some (cond b (on simple l.body) (on (element (stack rs l) n) l.body))))) t in
-      let there : Lays (inside simple rs l ls) (placed Simple w) = lays_placed (inside simple rs l ls) Simple w refl (record { stage = h.stage; names = h.names; frames = h.frames; records = h.records; wordy = h.wordy; fit = h.fit }) in
-      let same : Beyond w (placed Simple w) = record { stage = past_same w.stage; names = past_same w.names; frames = past_same w.frames; form = refl; indentation = refl } in
-      told_small w room c (inside (content p) rs l ls) v (announced_text (val_wrapped n) n p w (wrapped_announces n) u rs l ls t q)
-      (record { brought = no_name (val_wrapped n) n p w (wrapped_announces n) u rs l ls t; takes = refl; handed = refl }) safe h
-      (subst (λ x. Lays x v) (sym goes) (subst (λ y. Lays (inside simple rs l ls) y) (sym is) there)) (subst (λ y. Beyond w y) (sym is) same))
-
   -- a list, which is one text
   pub variants_list : (r : Result (Unit {0}) Refusal) → is_text_name n ≡ true → p ≡ true → Pushes r list_frame (TextItem false) w v → Does (call_value (val_variant_row n)) room r w v
   variants_list r t q y m lay = on_content (λ x. Told (verdict (setting w) room (call_value (val_variant_row n)) x) r w v) w p m lay at (λ rs l ls z.
@@ -150,15 +117,6 @@ module _ (room : ℕ) (w v : Mem) (n : List ℕ) (p : Bool) (safe : Safe w) (at 
         let same : Beyond w (placed (Element w.names.used) (name_put n w)) = record { stage = past_same w.stage; names = past_grown w.names n y.1; frames = past_same w.frames; form = refl; indentation = refl } in
         told_ok w room c here v (names_clear room c here n w k safe h y.0) safe h (names_fit room c here n w k safe h y.1) (depth_unasked w room c here refl) (sink_unasked w room c here refl)
         (subst (λ x. Lays x v) (sym goes) (subst (λ x. Lays there x) (sym is) laid)) (subst (λ x. Beyond w x) (sym is) same))
-
-    -- no frame is free for a row
-    pub variants_deep : Named (Ok tt) n w → length w.frames.all ≤ w.frames.used → Does (call_value (val_variant_row n)) room (Err Depth) w w
-    variants_deep y full m lay = on_content (λ x. Told (verdict (setting w) room (call_value (val_variant_row n)) x) (Err Depth) w w) w p m lay at (λ rs l ls z.
-        let c = call_value (val_variant_row n) in
-        let here = inside (content p) rs l ls in
-        let k = announced_name (val_variant_row n) n p w (row_announces n) u rs l ls t in
-        let h = z.holds in
-        told_depth w room c here (names_clear room c here n w k safe h y.0) safe h (names_fit room c here n w k safe h y.1) refl full)
 
     -- a row of elements
     pub variants_ok : Named (Ok tt) n w → w.frames.used < length w.frames.all → v ≡ placed (Element w.names.used) (pushed (named_frame (top_frame w).flag (w.names.used + length n) w.names.used) (name_put n w)) → Does (call_value (val_variant_row n)) room (Ok tt) w v

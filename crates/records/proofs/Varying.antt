@@ -1,27 +1,21 @@
 -- A variant at a content place: an empty element of its name, or nothing. Assumes nothing.
-use Rattle.std.proofs.Common.{◌≡◌, ℕ, suc, ◌+◌, ◌≤◌, Bool, true, false, cond, List, ◌∷◌, ◌++◌, length, Some, None, Ok, Err, codes, Result, sym, refl, ap, ◌∙◌, subst, arith}
-use Rattle.std.proofs.lemmas.List.{length-append}
+use Rattle.std.proofs.Common.{◌≡◌, ℕ, suc, Bool, true, false, cond, List, ◌∷◌, length, Some, None, Ok, Result, refl, ap, ◌∙◌}
 use Rattle.std.proofs.lemmas.Bool.{not_from_true}
 use Rattle.refusal.specs.declared.Refusal.{Refusal}
-use Rattle.refusal.specs.Refusals.{offset}
 use Rattle.style.specs.declared.result.WriteResult.TheVariants.{Element as element_result, Nothing}
 use Rattle.style.specs.declared.style.EmptyElementHandling.{EmptyElementHandling}
-use Rattle.style.specs.declared.style.EmptyElementHandling.TheVariants.{Expanded}
 use Rattle.xml.specs.Names.{name_fault}
 use Rattle.model.specs.declared.place.Place.TheVariants.{Content}
 use Rattle.model.specs.Strings.{utf8}
 use Rattle.model.specs.Calls.{Rule, val_variant, call_value, is_text_name}
-use Rattle.model.specs.Marks.{shut, empty_element}
-use Rattle.model.specs.Model.{Body, Row, content, inside, stack, child_start}
+use Rattle.model.specs.Marks.{empty_element}
+use Rattle.model.specs.Model.{Body, Row, content, stack, child_start}
 use Rattle.model.specs.Step.{done, put_content, empty_child}
 use Rattle.model.specs.Table.{verdict}
-use Rattle.engine.specs.Memory.{Mem, Safe, appended, worded, settled}
+use Rattle.engine.specs.Memory.{Mem, Safe, settled}
 use Rattle.engine.specs.Lays.{setting, Told, Does}
-use Rattle.engine.specs.Checks.{CheckedName}
-use Rattle.engine.proofs.Appending.{appended_three}
 use Rattle.engine.proofs.Spots.{on_content}
-use Rattle.engine.proofs.Telling.{told_name}
-use Rattle.rows.specs.Pieces.{lead_of, empty_bytes, Writes}
+use Rattle.rows.specs.Pieces.{empty_bytes, Writes}
 use Rattle.rows.proofs.Tagging.{empty_is}
 use Rattle.rows.proofs.Told.{spot_told}
 use Rattle.rows.proofs.Wording.{content_silent}
@@ -38,14 +32,6 @@ module _ (room : ℕ) (ρ : Rule) (n : List ℕ) (p : Bool) (w : Mem) (safe : Sa
       (λ rs l ls. variant_by w.form (suc (length ls)) rs l.body (stack rs l) ρ n true t) is
 
   module _ (t : is_text_name n ≡ false) where
-    -- no name
-    pub variant_misnamed : (e : Refusal) → CheckedName (Err e) n → Does (call_value (val_variant ρ n)) room (Err e) w w
-    variant_misnamed e a m lay =
-        on_content (λ x. Told (verdict (setting w) room (call_value (val_variant ρ n)) x) (Err e) w w) w p m lay at
-        (λ rs l ls z.
-        subst (λ x. Told (verdict (setting w) room (call_value (val_variant ρ n)) (inside (content p) rs l ls)) (Err x) w w) (sym a.1)
-        (told_name w room (call_value (val_variant ρ n)) (inside (content p) rs l ls) (offset e) refl (not_from_true (utf8 n) u) refl refl (ap (λ b. cond b None (name_fault n)) t ∙ a.0)))
-
     -- an empty element
     pub variant_told : (v : Mem) (res : Result (Unit {0}) Refusal) → name_fault n ≡ None → Writes res (empty_bytes w n) element_result false w v → Does (call_value (val_variant ρ n)) room res w v
     variant_told v res e h m lay =

@@ -1,4 +1,4 @@
-use Rattle.std.proofs.Common.{false, sym, ◌∙◌, rules, subst}
+use Rattle.std.proofs.Common.{false, rules, subst}
 use Rattle.model.specs.declared.place.Place.TheVariants.{TextItem}
 use Rattle.engine.specs.Memory.{mem}
 use Rattle.nests.specs.Frames.{Pushes}
