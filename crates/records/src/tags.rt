@@ -13,7 +13,8 @@ use model::{Frame, Place};
 use refusal::Refusal;
 use rows::lead;
 
-// The start of a tag is written, whose name begins at `from` on the name stack: its record is open, and has no children yet.
+// Opens the record whose tag's start stands last on the stage and whose name begins at `from` on the name stack: it has no
+// children yet, and its first field is awaited.
 fn begin_fields(core: &mut Core<'_>, from: usize)
     requires free { core.old.frames.used < length core.old.frames.at.now }
     requires records { core.old.records ≤ 64 }
@@ -45,7 +46,8 @@ pub fn record_at_element(core: &mut Core<'_>, from: usize, name: &[u8]) -> Resul
     Ok(())
 }
 
-// A record whose tag has this name, at a content place.
+// A record whose tag has this name, at a content place. A refusal changes nothing: so the tag is written from the name that
+// the call brings, and the name goes on the name stack once nothing more can be refused.
 fn enter(core: &mut Core<'_>, name: &[u8]) -> Result<(), Refusal>
     requires safe { Safe (mem core.old) }
     requires open { 0 < core.old.frames.used }

@@ -12,7 +12,8 @@ use refusal::Refusal;
 use rows::{lead, shut};
 use style::WriteResult;
 
-// An empty element of this name; the value is complete then.
+// An empty element of this name; the value is complete then. The like function for an element place cannot be this one: its
+// name lies in the core, which this one changes.
 fn write_element(core: &mut Core<'_>, name: &[u8]) -> Result<(), Refusal>
     requires safe { Safe (mem core.old) }
     requires open { 0 < core.old.frames.used }
