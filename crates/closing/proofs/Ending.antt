@@ -5,7 +5,6 @@ use Rattle.refusal.specs.declared.Refusal.{Refusal}
 use Rattle.refusal.specs.declared.Refusal.TheVariants.{Stage}
 use Rattle.memory.proofs.Opening.{length-opened}
 use Rattle.model.specs.declared.place.Place.TheVariants.{Field}
-use Rattle.model.specs.declared.frame.Frame.{Frame}
 use Rattle.model.specs.Calls.{call_end}
 use Rattle.model.specs.Marks.{bytes_of_mark, less_than, flatten, shut}
 use Rattle.model.specs.Model.{Level, Outer, between, start}

@@ -2,10 +2,10 @@
 use Rattle.std.proofs.Common.{◌≡◌, ℕ, ◌+◌, ◌≤◌, true, false, cond, List, [], ◌∷◌, ◌++◌, length, None, Ok, sym, refl, ap, ◌∙◌, subst, arith}
 use Rattle.std.proofs.lemmas.Bool.{not_from_true, ne_eqb}
 use Rattle.xml.specs.Names.{name_fault}
-use Rattle.model.specs.declared.place.Place.TheVariants.{Field, Element, Content, Text}
+use Rattle.model.specs.declared.place.Place.TheVariants.{Field, Element}
 use Rattle.model.specs.Strings.{utf8}
 use Rattle.model.specs.Calls.{Key, key_attribute, key_text, key_value, key_element, key, is_text_name, is_value_name, call_field}
-use Rattle.model.specs.Model.{Level, Outer, Spot, element, content, text_spot, between, inside, spot_place, stack}
+use Rattle.model.specs.Model.{Level, Outer, Spot, element, between, inside, spot_place, stack}
 use Rattle.model.specs.Step.{field}
 use Rattle.model.specs.Layout.{spot_names, spot_frames, record_frame, outer_frames}
 use Rattle.model.specs.Grounds.{key_fault}
@@ -64,17 +64,9 @@ module _ (k : List ℕ) (room : ℕ) (w : Mem) (safe : Safe w) (at : w.place ≡
       (subst (λ z. Lays z v) (sym (ap (λ z. field z l ls) e ∙ leads l ls)) (lays_unnamed s l ls w (named l) framed y.holds))
       (record { stage = past_same w.stage; names = past_same w.names; frames = past_same w.frames; form = refl; indentation = refl }))
 
-  pub text_key : is_text_name k ≡ true → Does (call_field k) room (Ok tt) w (placed Text w)
-  text_key t =
-      let e : key k ≡ key_text = plain_key k plain ∙ ap (λ b. cond b key_text (cond (is_value_name k) key_value (key_element k))) t in
-      key_silent key_text text_spot e refl refl (λ l ls. refl) (λ l. refl) refl
-
   module _ (t : is_text_name k ≡ false) where
     not_text : key k ≡ cond (is_value_name k) key_value (key_element k)
     not_text = plain_key k plain ∙ ap (λ b. cond b key_text (cond (is_value_name k) key_value (key_element k))) t
-
-    pub value_key : is_value_name k ≡ true → Does (call_field k) room (Ok tt) w (placed (Content true) w)
-    value_key v = key_silent key_value (content true) (not_text ∙ ap (λ b. cond b key_value (key_element k)) v) refl refl (λ l ls. refl) (λ l. refl) refl
 
     -- any other is the name of an element
     pub element_key : is_value_name k ≡ false → name_fault k ≡ None → (u : Mem) → w.names.used + length k ≤ length w.names.all → u ≡ name_put k w → Does (call_field k) room (Ok tt) w (placed (Element w.names.used) u)

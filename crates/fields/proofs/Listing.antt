@@ -18,7 +18,6 @@ use Rattle.model.specs.Table.{verdict, next, or_stay, value_opens}
 use Rattle.model.proofs.Flatten.{flatten_texted}
 use Rattle.engine.specs.Memory.{Mem, Safe, appended, worded, placed}
 use Rattle.engine.specs.Lays.{Holds, Lays, Beyond, setting, Told, Does}
-use Rattle.engine.proofs.Appending.{appended-++}
 use Rattle.engine.proofs.Fronts.{front_length, past_same, past_grown}
 use Rattle.engine.proofs.Kids.{more_kids, stage_kids, holds_kids}
 use Rattle.engine.proofs.Spots.{on_word}
@@ -70,10 +69,6 @@ lays_item t bs rs l ls w room h =
     let k = holds_kids (words t) rs l ls w (texted bs) true (omega (arith, room, ap length flat)) h in
     subst (λ z. Lays (inside (words true) rs (with_body l (more_kids l.body (texted bs) true)) ls) (placed (TextItem true) (worded true (appended z w)))) flat
     (record { holds = record { stage = k.stage; names = k.names; frames = k.frames; records = k.records; wordy = k.wordy; fit = k.fit }; place = refl })
-
--- the code's two steps, put together
-pub item_added : (w u v : Mem) (g a s : List ℕ) → g ≡ a → w.stage.used + (length a + length s) ≤ length w.stage.all → u ≡ appended g w → v ≡ appended s u → placed (TextItem true) (worded true v) ≡ placed (TextItem true) (worded true (appended (a ++ s) w))
-item_added w u v g a s e fits p q = ap (λ x. placed (TextItem true) (worded true x)) (q ∙ ap (appended s) (p ∙ ap (λ x. appended x w) e) ∙ appended-++ w a s fits)
 
 module _ (c : Value) (r : Rule) (s : List ℕ) (is : IsItem c r s) (room : ℕ) (t : Bool) (w v : Mem) (at : w.place ≡ TextItem t) (safe : Safe w) (fine : utf8 s ≡ true) (some : length s ≡ 0 → ⊥) where
   clear : (rs : List Row) (l : Level) (ls : List Outer) → Clear (call_value c) (inside (words t) rs l ls)
