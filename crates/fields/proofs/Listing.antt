@@ -4,6 +4,7 @@ use Rattle.std.proofs.lemmas.List.{length-append}
 use Rattle.std.proofs.lemmas.Bool.{not_from_true, and_right, both_ways}
 use Rattle.refusal.specs.declared.Refusal.{Refusal}
 use Rattle.refusal.specs.declared.Refusal.TheVariants.{Stage}
+use Rattle.xml.specs.declared.escape.Use.{Use}
 use Rattle.xml.specs.declared.escape.Use.TheVariants.{TextItem as text_item_use}
 use Rattle.xml.specs.Escaping.{replacement, piece, escaped}
 use Rattle.model.specs.declared.place.Place.TheVariants.{TextItem}
@@ -22,6 +23,7 @@ use Rattle.engine.proofs.Fronts.{front_length, past_same, past_grown}
 use Rattle.engine.proofs.Kids.{more_kids, stage_kids, holds_kids}
 use Rattle.engine.proofs.Spots.{on_word}
 use Rattle.engine.proofs.Telling.{Clear, Small, told_small, told_small_full}
+use Rattle.rows.proofs.Elemental.{by_rule}
 use Rattle.fields.specs.Items.{IsItem, Adds}
 
 -- what is asked of an item, the same for both values
@@ -86,7 +88,7 @@ module _ (c : Value) (r : Rule) (s : List ℕ) (is : IsItem c r s) (room : ℕ) 
   item_next rs l ls =
       ap (λ o. or_stay (inside (words t) rs l ls) (moved_if rs l ls o)) ((items c r s is).puts t l.body ∙ ap Some (item_on t l.body (r.chooses text_item_use) s some))
 
-  pub item_told : (res : Result (Unit {0}) Refusal) → Adds res (gap t ++ escaped (r.chooses text_item_use) s) w v → Does (call_value c) room res w v
+  item_told : (res : Result (Unit {0}) Refusal) → Adds res (gap t ++ escaped (r.chooses text_item_use) s) w v → Does (call_value c) room res w v
   item_told (Ok x) h m lay =
       on_word (λ x. Told (verdict (setting w) room (call_value c) x) (Ok tt) w v) w t m lay at
       (λ rs l ls y.
@@ -105,3 +107,7 @@ module _ (c : Value) (r : Rule) (s : List ℕ) (is : IsItem c r s) (room : ℕ) 
       let full = told_small_full w room (call_value c) m (clear rs l ls) (small rs l ls) safe y.holds
       (omega (arith, h.2, ap length more, length-append (stage i (between l ls)) (flatten i (texted item_bytes)), ap length (flatten_texted i item_bytes), front_length w.stage (stage i m) y.holds.stage)) in
       subst (λ z. Told (verdict (setting w) room (call_value c) m) (Err z) w v) (sym h.0) (subst (λ z. Told (verdict (setting w) room (call_value c) m) (Err Stage) w z) (sym h.1) full))
+
+  -- the same by what another rule chooses, where both choose alike
+  pub item_by : {chosen : Use → ℕ → Bool} → r.chooses ≡ chosen → (res : Result (Unit {0}) Refusal) → Adds res (gap t ++ escaped (chosen text_item_use) s) w v → Does (call_value c) room res w v
+  item_by e res h = item_told res (by_rule (λ x. Adds res (gap t ++ x) w v) r text_item_use s e h)
