@@ -1,13 +1,11 @@
 -- What every memory that holds a model at the field place has, as numbers. Assumes nothing.
-use Rattle.std.proofs.Common.{◌≡◌, ◌<◌, ◌≤◌, [], ◌++◌, ap, arith}
+use Rattle.std.proofs.Common.{◌≡◌, ◌<◌, ◌≤◌, ◌++◌, ap, arith}
 use Rattle.std.proofs.lemmas.List.{length-append}
 use Rattle.model.specs.declared.place.Place.TheVariants.{Field}
 use Rattle.model.specs.Model.{State}
-use Rattle.model.specs.Layout.{record_frame, outer_frames}
 use Rattle.engine.specs.Memory.{Mem, top_frame}
 use Rattle.engine.specs.Lays.{Lays}
 use Rattle.engine.proofs.Fronts.{front_length}
-use Rattle.engine.proofs.Settling.{some_open}
 use Rattle.engine.proofs.Spots.{on_field}
 use Rattle.closing.proofs.Ending.{top_level}
 
