@@ -1,36 +1,22 @@
 -- Escaped bytes say the value, and only the value, for every rule that keeps its laws. Assumes nothing.
-use Rattle.std.proofs.Common.{◌≡◌, ℕ, Bool, true, false, cond, not, ◌&&◌, eqb, ◌≢◌, List, [], ◌∷◌, ◌++◌, Some, None, codes, Option, sym, refl, ap, ◌∙◌, subst}
+use Rattle.std.proofs.Common.{◌≡◌, ℕ, Bool, true, false, cond, not, eqb, ◌≢◌, List, [], ◌∷◌, ◌++◌, Some, None, codes, Option, sym, refl, ap, ◌∙◌, subst}
 use Rattle.std.specs.Str.{bytes_eq}
-use Rattle.std.proofs.lemmas.Bool.{and_from, and_parts, ne_eqb, eqb-false, not_from_false, not-true, or_parts, and_left, and_right}
+use Rattle.std.proofs.lemmas.Bool.{and_from, and_parts, ne_eqb, not_from_false, not-true}
 use Rattle.xml.specs.declared.escape.Use.{Use}
 use Rattle.xml.specs.declared.escape.Use.TheVariants.{Text, Attribute, TextItem, AttributeItem}
 use Rattle.xml.specs.Escaping.{among, replacement, must, escaped, Lawful}
-use Rattle.xml.specs.Reading.{lines, Reference, lt, gt, apos, amp, quot, tab, line_feed, carriage_return, space, begins, CharData, text_end, text_raw, text_reference, value_byte, AttValue, value_end, value_raw, value_reference}
+use Rattle.xml.specs.Reading.{lines, Reference, lt, gt, apos, amp, quot, tab, line_feed, carriage_return, space, CharData, text_end, text_raw, text_reference, value_byte, AttValue, value_end, value_raw, value_reference}
 use Rattle.xml.specs.Back.{barred, free, ReadsBack}
 use Rattle.xml.specs.Levels.{of_all}
 use Rattle.xml.proofs.Nine.{nine_reference, inside}
-use Rattle.xml.proofs.Free.{raw_is_none, raw_is_not, free_escaped}
+use Rattle.xml.proofs.Free.{apart, begins_not, raw_is_none, raw_is_not, free_escaped}
 
 -- without a carriage return, line ends are as they were
-lines_same : (bs : List ℕ) → free (13 ∷ []) bs ≡ true → lines bs ≡ bs
+pub lines_same : (bs : List ℕ) → free (13 ∷ []) bs ≡ true → lines bs ≡ bs
 lines_same [] h = refl
 lines_same (b ∷ bs) h =
     let p = and_parts (not (among b (13 ∷ []))) (free (13 ∷ []) bs) h in
-    let other : eqb b 13 ≡ false = (or_parts (eqb b 13) false (not-true (among b (13 ∷ [])) p.0)).0 in
-    rw other (ap (λ l. b ∷ l) (lines_same bs p.1))
-
--- without a raw > there is no ]]>
-no_section_end : (bs : List ℕ) → free (62 ∷ []) bs ≡ true → begins (codes "]]>") bs ≡ false
-no_section_end [] h = refl
-no_section_end (a ∷ []) h = and_right (eqb 93 a) false refl
-no_section_end (a ∷ b ∷ []) h = and_right (eqb 93 a) (eqb 93 b && false) (and_right (eqb 93 b) false refl)
-no_section_end (a ∷ b ∷ c ∷ bs) h =
-    let q = (and_parts (not (among a (62 ∷ []))) (free (62 ∷ []) (b ∷ c ∷ bs)) h).1 in
-    let r = (and_parts (not (among b (62 ∷ []))) (free (62 ∷ []) (c ∷ bs)) q).1 in
-    let s = (and_parts (not (among c (62 ∷ []))) (free (62 ∷ []) bs) r).0 in
-    let other : eqb c 62 ≡ false = (or_parts (eqb c 62) false (not-true (among c (62 ∷ [])) s)).0 in
-    let swapped : eqb 62 c ≡ false = ne_eqb 62 c (λ e. eqb-false c 62 other (sym e)) in
-    and_right (eqb 93 a) (eqb 93 b && (eqb 62 c && true)) (and_right (eqb 93 b) (eqb 62 c && true) (and_left (eqb 62 c) true swapped))
+    rw (apart b 13 (13 ∷ []) (not-true (among b (13 ∷ [])) p.0) refl) (ap (λ l. b ∷ l) (lines_same bs p.1))
 
 -- A text is read back where & < and > are asked for, a value where & < " tab and line feed are.
 module _ {u : Use} {chosen : ℕ → Bool} (law : Lawful u chosen) where
@@ -44,10 +30,11 @@ module _ {u : Use} {chosen : ℕ → Bool} (law : Lawful u chosen) where
       one : (t : Bool) → chosen b ≡ t → CharData (escaped chosen bs) bs → CharData (cond t (replacement b) (b ∷ []) ++ escaped chosen bs) (b ∷ bs)
       one true e rest = text_reference (nine_reference b (law.within b e)) rest
       one false e rest =
-          let none = and_from (not (among b (62 ∷ []))) (free (62 ∷ []) (escaped chosen bs)) (not_from_false (among b (62 ∷ [])) (raw_is_none law b (62 ∷ []) (and_from (among 62 (must u)) true (asks 62 refl) refl) e)) (free_escaped law (62 ∷ []) (and_from (among 62 (must u)) true (asks 62 refl) refl) refl bs) in
-          text_raw (raw_is_not law b 60 (asks 60 refl) e) (raw_is_not law b 38 (asks 38 refl) e) (no_section_end (b ∷ escaped chosen bs) none) rest
+          let asked = and_from (among 62 (must u)) true (asks 62 refl) refl in
+          let none = and_from (not (among b (62 ∷ []))) (free (62 ∷ []) (escaped chosen bs)) (not_from_false (among b (62 ∷ [])) (raw_is_none law b (62 ∷ []) asked e)) (free_escaped law (62 ∷ []) asked refl bs) in
+          text_raw (raw_is_not law b 60 (asks 60 refl) e) (raw_is_not law b 38 (asks 38 refl) e) (begins_not (62 ∷ []) (codes "]]>") (b ∷ escaped chosen bs) refl none) rest
 
-  value_back : inside (38 ∷ 60 ∷ 34 ∷ 9 ∷ 10 ∷ []) (must u) ≡ true → (value : List ℕ) → AttValue (escaped chosen value) value
+  pub value_back : inside (38 ∷ 60 ∷ 34 ∷ 9 ∷ 10 ∷ []) (must u) ≡ true → (value : List ℕ) → AttValue (escaped chosen value) value
   value_back i [] = value_end
   value_back i (b ∷ bs) = one (chosen b) refl (value_back i bs)
     where

@@ -1,19 +1,36 @@
--- Bytes that stand nowhere in what an escaping rule writes. Assumes nothing.
-use Rattle.std.proofs.Common.{◌≡◌, ℕ, Bool, true, false, cond, not, ◌≢◌, List, [], ◌∷◌, ◌++◌, sym, refl, subst, ⊎_elim}
-use Rattle.std.proofs.lemmas.Bool.{and_from, and_parts, both_ways, not_from_false, cases_Bool}
+-- Bytes that stand nowhere, above all in what an escaping rule writes. Assumes nothing.
+use Rattle.std.proofs.Common.{◌≡◌, ℕ, Bool, true, false, cond, not, eqb, ◌≢◌, List, [], ◌∷◌, ◌++◌, sym, refl, subst, ⊎_elim}
+use Rattle.std.specs.List.{list_all, list_any}
+use Rattle.std.proofs.lemmas.Bool.{and_from, and_parts, and_left, and_right, both_ways, ne_eqb, not-true, not_from_false, or_cases, cases_Bool}
 use Rattle.xml.specs.declared.escape.Use.{Use}
 use Rattle.xml.specs.Escaping.{among, replacement, must, piece, escaped, Lawful}
+use Rattle.xml.specs.Reading.{begins}
 use Rattle.xml.specs.Back.{free}
-use Rattle.xml.specs.Levels.{all, of_all}
+use Rattle.xml.specs.Levels.{of_all}
 use Rattle.xml.proofs.Nine.{nines, inside}
 
 free-++ : (bars cs bs : List ℕ) → free bars cs ≡ true → free bars bs ≡ true → free bars (cs ++ bs) ≡ true
 free-++ bars [] bs h k = k
 free-++ bars (c ∷ cs) bs h k = let p = and_parts (not (among c bars)) (free bars cs) h in and_from (not (among c bars)) (free bars (cs ++ bs)) p.0 (free-++ bars cs bs p.1 k)
 
+-- what is not among some bytes is none of them
+pub apart : (b x : ℕ) (xs : List ℕ) → among b xs ≡ false → among x xs ≡ true → eqb b x ≡ false
+apart b x xs h k = ne_eqb b x (λ e. both_ways (among b xs) h (subst (λ z. among z xs ≡ true) (sym e) k))
+
+-- where no byte is barred, nothing begins that has a barred byte in it
+pub begins_not : (bars xs bs : List ℕ) → list_any (λ x. among x bars) xs ≡ true → free bars bs ≡ true → begins xs bs ≡ false
+begins_not bars [] bs h k = absurd (both_ways false refl h)
+begins_not bars (x ∷ xs) [] h k = refl
+begins_not bars (x ∷ xs) (b ∷ bs) h k =
+    let p = and_parts (not (among b bars)) (free bars bs) k in
+    ⊎_elim
+    (λ here. and_left (eqb x b) (begins xs bs) (ne_eqb x b (λ e. both_ways (among b bars) (not-true (among b bars) p.0) (subst (λ z. among z bars ≡ true) e here))))
+    (λ later. and_right (eqb x b) (begins xs bs) (begins_not bars xs bs later p.1))
+    (or_cases (among x bars) (list_any (λ y. among y bars) xs) h)
+
 -- no replacement holds any of these bytes
 abbrev pub spares : List ℕ → Bool
-spares bars = all (λ b. free bars (replacement b)) nines
+spares bars = list_all (λ b. free bars (replacement b)) nines
 
 module _ {u : Use} {chosen : ℕ → Bool} (law : Lawful u chosen) where
   -- a byte that is left raw is none of those that the use asks for

@@ -1,4 +1,3 @@
-pub mod Wholes
 pub mod Naming
 pub mod Nine
 pub mod Free

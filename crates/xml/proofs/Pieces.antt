@@ -1,22 +1,20 @@
 -- Pieces written one after another, a byte at a time. Assumes nothing.
-use Rattle.std.proofs.Common.{◌≡◌, ℕ, ◌+◌, ◌<◌, ◌≤◌, List, [], ◌∷◌, ◌++◌, length, get_or, take, drop, sym, refl, ap, ◌∙◌, append_assoc, append-nil, arith, length-append, take-append-drop}
+use Rattle.std.proofs.Common.{◌≡◌, ℕ, ◌+◌, ◌<◌, ◌≤◌, List, [], ◌∷◌, ◌++◌, length, get_or, take, drop, sym, ap, ◌∙◌, append-nil, arith, length-append, take-append-drop}
 use Rattle.std.specs.List.{flat_map}
 use Rattle.std.proofs.lemmas.List.{take_more, take_all}
+use Rattle.std.proofs.lemmas.List.Folds.{length-flat_map-take}
+use Rattle.std.proofs.lemmas.Grind.{flat_map-append}
 use Rattle.memory.specs.Laid.{laid}
 use Rattle.memory.proofs.Laying.{laid-laid, laid_none}
 
-joined_append : (f : ℕ → List ℕ) (xs ys : List ℕ) → flat_map f (xs ++ ys) ≡ flat_map f xs ++ flat_map f ys
-joined_append f [] ys = refl
-joined_append f (x ∷ xs) ys = ap (λ l. f x ++ l) (joined_append f xs ys) ∙ sym (append_assoc (f x) (flat_map f xs) (flat_map f ys))
-
 -- one more piece
 pub joined_step : (f : ℕ → List ℕ) (xs : List ℕ) (i d : ℕ) → i < length xs → flat_map f (take (i + 1) xs) ≡ flat_map f (take i xs) ++ f (get_or xs i d)
-joined_step f xs i d h = ap (flat_map f) (take_more xs i d h) ∙ joined_append f (take i xs) (get_or xs i d ∷ []) ∙ ap (λ l. flat_map f (take i xs) ++ l) (append-nil (f (get_or xs i d)))
+joined_step f xs i d h = ap (flat_map f) (take_more xs i d h) ∙ flat_map-append f (take i xs) (get_or xs i d ∷ []) ∙ ap (λ l. flat_map f (take i xs) ++ l) (append-nil (f (get_or xs i d)))
 
 -- the pieces so far are no longer than all
 pub joined_front : (f : ℕ → List ℕ) (xs : List ℕ) (i : ℕ) → length (flat_map f (take i xs)) ≤ length (flat_map f xs)
 joined_front f xs i =
-    let e : flat_map f xs ≡ flat_map f (take i xs) ++ flat_map f (drop i xs) = ap (flat_map f) (sym (take-append-drop i xs)) ∙ joined_append f (take i xs) (drop i xs) in
+    let e : flat_map f xs ≡ flat_map f (take i xs) ++ flat_map f (drop i xs) = ap (flat_map f) (sym (take-append-drop i xs)) ∙ flat_map-append f (take i xs) (drop i xs) in
     omega (arith, ap length e, length-append (flat_map f (take i xs)) (flat_map f (drop i xs)))
 
 -- the pieces of the first i bytes stand in `out` from `at` up to `end`; before the first, out was d
@@ -27,11 +25,8 @@ module _ (f : ℕ → List ℕ) (d : List ℕ) (at : ℕ) (xs : List ℕ) (fits 
   pub sofar_none : Sofar f d at xs 0 at d
   sofar_none = (omega arith, laid_none d at)
 
-  step_length : (i : ℕ) → i < length xs → length (flat_map f (take i xs)) + length (f (get_or xs i 0)) ≤ length (flat_map f xs)
-  step_length i h = omega (arith, ap length (joined_step f xs i 0 h), length-append (flat_map f (take i xs)) (f (get_or xs i 0)), joined_front f xs (i + 1))
-
   pub sofar_room : (i end : ℕ) (out : List ℕ) → Sofar f d at xs i end out → i < length xs → length out ≡ length d → end + length (f (get_or xs i 0)) ≤ length out
-  sofar_room i end out s h e = omega (arith, s.0, step_length i h)
+  sofar_room i end out s h e = omega (arith, s.0, length-flat_map-take f xs i 0 h)
 
   pub sofar_more : (i end : ℕ) (out : List ℕ) → Sofar f d at xs i end out → i < length xs → (end' : ℕ) (out' : List ℕ) → end' ≡ end + length (f (get_or xs i 0)) → out' ≡ laid out end (f (get_or xs i 0)) → Sofar f d at xs (i + 1) end' out'
   sofar_more i end out s h end' out' p q =
@@ -39,7 +34,7 @@ module _ (f : ℕ → List ℕ) (d : List ℕ) (at : ℕ) (xs : List ℕ) (fits 
       let piece = f (get_or xs i 0) in
       let more : flat_map f (take (i + 1) xs) ≡ before ++ piece = joined_step f xs i 0 h in (
         omega (arith, p, s.0, ap length more, length-append before piece),
-        q ∙ ap (λ e. laid out e piece) s.0 ∙ ap (λ l. laid l (at + length before) piece) s.1 ∙ laid-laid d before piece at (omega (arith, step_length i h)) ∙ ap (laid d at) (sym more),
+        q ∙ ap (λ e. laid out e piece) s.0 ∙ ap (λ l. laid l (at + length before) piece) s.1 ∙ laid-laid d before piece at (omega (arith, length-flat_map-take f xs i 0 h)) ∙ ap (laid d at) (sym more),
       )
 
   pub sofar_all : (i end : ℕ) (out : List ℕ) → Sofar f d at xs i end out → length xs ≤ i → (end ≡ at + length (flat_map f xs)) × (out ≡ laid d at (flat_map f xs))

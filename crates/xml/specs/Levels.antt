@@ -1,5 +1,6 @@
 -- What holds of each byte of a list holds of any byte among them, and so the levels keep the laws of a rule. Assumes nothing.
-use Rattle.std.specs.Prelude.{◌≡◌, ℕ, Bool, true, false, ◌&&◌, ◌||◌, List, [], ◌∷◌, ◌==◌, refl}
+use Rattle.std.specs.Prelude.{◌≡◌, ℕ, Bool, true, false, ◌||◌, List, [], ◌∷◌, ◌==◌, refl}
+use Rattle.std.specs.List.{AllByRecursion, list_all}
 use Rattle.std.proofs.Common.{sym, ap, subst, ⊎_elim}
 use Rattle.std.proofs.lemmas.Bool.{and_parts, both_ways, eqb-true, or_cases}
 use Rattle.xml.specs.declared.escape.Use.{Use}
@@ -8,25 +9,16 @@ use Rattle.xml.specs.declared.escape.QuoteLevel.{QuoteLevel}
 use Rattle.xml.specs.declared.escape.QuoteLevel.TheVariants.{Full, Partial, Minimal}
 use Rattle.xml.specs.Escaping.{among, nine, must, asked, added, level_chooses}
 
-abbrev pub Each : (ℕ → Type 0) → List ℕ → Type 0
-Each P [] = Unit {0}
-Each P (x ∷ xs) = P x × Each P xs
-
-pub of_each : (P : ℕ → Type 0) (xs : List ℕ) (b : ℕ) → Each P xs → among b xs ≡ true → P b
+pub of_each : (P : ℕ → Type 0) (xs : List ℕ) (b : ℕ) → AllByRecursion P xs → among b xs ≡ true → P b
 of_each P [] b each h = absurd (both_ways false refl h)
 of_each P (x ∷ xs) b each h = ⊎_elim (λ e. subst P (sym (eqb-true b x e)) each.0) (of_each P xs b each.1) (or_cases (b == x) (among b xs) h)
 
 -- the same of a test, which at a written list computes
-abbrev pub all : (ℕ → Bool) → List ℕ → Bool
-all p [] = true
-all p (x ∷ xs) = p x && all p xs
-
-each_of_all : (p : ℕ → Bool) (xs : List ℕ) → all p xs ≡ true → Each (λ x. p x ≡ true) xs
-each_of_all p [] h = tt
-each_of_all p (x ∷ xs) h = let q = and_parts (p x) (all p xs) h in (q.0, each_of_all p xs q.1)
-
-pub of_all : (p : ℕ → Bool) (xs : List ℕ) (b : ℕ) → all p xs ≡ true → among b xs ≡ true → p b ≡ true
-of_all p xs b h = of_each (λ x. p x ≡ true) xs b (each_of_all p xs h)
+pub of_all : (p : ℕ → Bool) (xs : List ℕ) (b : ℕ) → list_all p xs ≡ true → among b xs ≡ true → p b ≡ true
+of_all p [] b all h = absurd (both_ways false refl h)
+of_all p (x ∷ xs) b all h =
+    let q = and_parts (p x) (list_all p xs) all in
+    ⊎_elim (λ e. subst (λ y. p y ≡ true) (sym (eqb-true b x e)) q.0) (of_all p xs b q.1) (or_cases (b == x) (among b xs) h)
 
 asked_within : (u : Use) (b : ℕ) → asked u b ≡ true → nine b ≡ true
 asked_within Text b = of_all nine (must Text) b refl

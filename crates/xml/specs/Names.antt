@@ -1,5 +1,6 @@
 -- Names: productions 4, 4a and 5 of XML 1.0, Fifth Edition, and where a name that is none goes wrong. Assumes nothing.
-use Rattle.std.specs.Prelude.{◌≡◌, ℕ, ◌+◌, Bool, true, false, cond, ◌&&◌, ◌||◌, ◌⊎◌, List, [], ◌∷◌, ◌++◌, length, Some, None, Option, nat_le}
+use Rattle.std.specs.Prelude.{◌≡◌, ℕ, ◌+◌, Bool, false, true, cond, ◌&&◌, ◌||◌, ◌⊎◌, List, [], ◌∷◌, ◌++◌, length, Some, None, Option, nat_le}
+use Rattle.std.specs.List.{list_any, list_all}
 use Rattle.std.proofs.Math.Utf8.{scalars, encode, encodes}
 use Rattle.std.specs.Char.{len_utf8}
 use Rattle.std.specs.Str.{chars as decodes}
@@ -23,8 +24,7 @@ abbrev pub further_ranges : List Range
 further_ranges = 0x2D to 0x2D ∷ 0x2E to 0x2E ∷ 0x30 to 0x39 ∷ 0xB7 to 0xB7 ∷ 0x300 to 0x36F ∷ 0x203F to 0x2040 ∷ []
 
 abbrev pub within : List Range → ℕ → Bool
-within [] c = false
-within (r ∷ rs) c = (nat_le r.first c && nat_le c r.last) || within rs c
+within rs c = list_any (λ r. nat_le r.first c && nat_le c r.last) rs
 
 abbrev pub is_start : ℕ → Bool
 is_start c = within start_ranges c
@@ -32,14 +32,10 @@ is_start c = within start_ranges c
 abbrev pub is_name_char : ℕ → Bool
 is_name_char c = is_start c || within further_ranges c
 
-abbrev pub all_name_chars : List ℕ → Bool
-all_name_chars [] = true
-all_name_chars (c ∷ cs) = is_name_char c && all_name_chars cs
-
 -- production 5, Name ::= NameStartChar (NameChar)*, over characters
 abbrev pub is_name : List ℕ → Bool
 is_name [] = false
-is_name (c ∷ cs) = is_start c && all_name_chars cs
+is_name (c ∷ cs) = is_start c && list_all is_name_char cs
 
 -- these bytes are the UTF-8 of a name
 pub record Name (bs : List ℕ) : Type 0 where

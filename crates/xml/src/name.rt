@@ -1,15 +1,16 @@
 // Names of elements and attributes: production 5 of XML 1.0, Fifth Edition.
-ghost use Rattle.std.specs.Prelude.{◌≡◌, Some, MatchResult};
+ghost use Rattle.std.specs.Prelude.{◌≡◌, Some, None, MatchResult};
 ghost use Rattle.std.specs.Str.{chars};
 ghost use Rattle.refusal.specs.Refusals.{number, offset};
 ghost use Rattle.xml.specs.Names.{is_start, is_name_char, stray_from, name_fault, Name, FirstAtFault, Faults};
 
 use refusal::Refusal;
 
-/// A borrowed name: `try_from` alone makes one, and of nothing but a name.
-#[derive(Clone, Copy)]
+/// A borrowed name. Its characters are a name, always: `try_from` alone makes one.
+#[derive(Clone, Copy, PartialEq, Eq, Debug)]
 pub struct XmlName<'n> {
     name: &'n str,
+    ghost faultless: { name_fault name.now ≡ None },
 }
 
 fn is_name_start_char(c: char) -> bool
@@ -43,6 +44,7 @@ fn is_name_char(c: char) -> bool
 }
 
 // The offset of the first character that stands in no name, if there is one.
+// A loop that breaks with it, as the project asks of the name check.
 fn first_stray(name: &str) -> Option<usize>
     ensures { result ≡ stray_from (chars name.now) 0 }
 {
@@ -61,31 +63,32 @@ fn first_fault(name: &str) -> Option<usize>
     ensures value { result ≡ name_fault name.now }
     ensures faults { Faults result name.now }
 {
-    match name.chars().next() {
-        None => Some(0),
-        Some(first) => {
-            if is_name_start_char(first) {
-                first_stray(name)
-            } else {
-                Some(0)
-            }
-        }
+    if name.starts_with(is_name_start_char) {
+        first_stray(name)
+    } else {
+        Some(0)
     }
 }
 
-impl<'n> XmlName<'n> {
-    /// The name that these characters are, or refusal 5 with the offset of the first character at fault.
-    pub fn try_from(name: &'n str) -> Result<XmlName<'n>, Refusal>
-        ensures cases { MatchResult result (λ n. (n.name.now ≡ name.now) × Name name.now) (λ e. (number e ≡ 5) × (name_fault name.now ≡ Some (offset e)) × FirstAtFault name.now (offset e) × (Name name.now → ⊥)) }
-    {
+/// The name that these characters are, or refusal 5 with the offset of the first character at fault.
+impl<'n> TryFrom<&'n str> for XmlName<'n> {
+    type Error = Refusal;
+
+    ghost try_from_gives = { λ name r. MatchResult r (λ n. (n.name.now ≡ name.now) × Name name.now) (λ e. (number e ≡ 5) × (name_fault name.now ≡ Some (offset e)) × FirstAtFault name.now (offset e) × (Name name.now → ⊥)) };
+
+    fn try_from(name: &'n str) -> Result<XmlName<'n>, Refusal> {
         match first_fault(name) {
             None => Ok(XmlName { name }),
             Some(at) => Err(Refusal::Name(at)),
         }
     }
+}
 
+impl<'n> XmlName<'n> {
+    #[tactic(auto, using(crate::proofs::Naming::name_from_no_fault))]
     pub fn as_str(&self) -> &'n str
         ensures value { result.now ≡ self.now.name.now }
+        ensures name { Name result.now }
     {
         self.name
     }
