@@ -7,7 +7,7 @@ use Rattle.xml.specs.Reading.{Reference, begins}
 use Rattle.reader.specs.Trees.{Bytes, Nodes, done, elem, Tree, ◌▹◌}
 use Rattle.reader.specs.Reader.{Element, empty_tag, spaced_empty_tag, tags, Content, content_end, content_raw, content_reference, content_element}
 use Rattle.reader.proofs.Tidy.{◌⊕◌, byte-⊕}
-use Rattle.reader.proofs.Bytewise.{apart}
+use Rattle.xml.proofs.Free.{apart}
 use Rattle.reader.proofs.Sound.{reference_mild}
 
 -- as `Content`, with none of the bytes raw that are always escaped in a text

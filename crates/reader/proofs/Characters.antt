@@ -1,9 +1,10 @@
 -- The bytes of characters: one byte below 128, or bytes that are all 128 and more, so that a name holds no delimiter.
 use Rattle.std.proofs.Common.{◌≡◌, ℕ, ◌+◌, ◌/◌, ◌<◌, ◌≤◌, Bool, true, not, ltb, List, [], ◌∷◌, length, IsUtf8, refl, ap, subst, arith}
 use lib.Utf8.{encode, encodes, next}
+use Rattle.std.specs.List.{list_all}
 use Rattle.std.proofs.lemmas.Str.{length-le-encodes}
 use Rattle.std.proofs.lemmas.Bool.{and_parts, and_from, cond_both, ltb-true, false≢true, not_from_false, or_left}
-use Rattle.xml.specs.Names.{Name, is_start, is_name_char, all_name_chars, is_name, within, further_ranges}
+use Rattle.xml.specs.Names.{Name, is_start, is_name_char, is_name, within, further_ranges}
 use Rattle.xml.specs.Escaping.{among}
 use Rattle.reader.specs.Trees.{Bytes}
 use Rattle.reader.proofs.Bytewise.{Each, each_more, each-++, not_among}
@@ -38,17 +39,17 @@ name_char_plain : (c : ℕ) → is_name_char c ≡ true → plain c ≡ true
 name_char_plain c e =
     not_from_false (among c delimiters) (not_among (λ x. is_name_char x ≡ true) delimiters (false≢true, (false≢true, (false≢true, (false≢true, (false≢true, (false≢true, tt)))))) c e)
 
-name_chars_plain : (cs : List ℕ) → all_name_chars cs ≡ true → Each plain (encodes cs)
+name_chars_plain : (cs : List ℕ) → list_all is_name_char cs ≡ true → Each plain (encodes cs)
 name_chars_plain [] e = record { is = refl }
 name_chars_plain (c ∷ cs) e =
-    let h = and_parts (is_name_char c) (all_name_chars cs) e in
+    let h = and_parts (is_name_char c) (list_all is_name_char cs) e in
     each-++ (char_each plain c (λ _. name_char_plain c h.0) high_plain) (name_chars_plain cs h.1)
 
-is_name_chars : (cs : List ℕ) → is_name cs ≡ true → (all_name_chars cs ≡ true) × (0 < length cs)
+is_name_chars : (cs : List ℕ) → is_name cs ≡ true → (list_all is_name_char cs ≡ true) × (0 < length cs)
 is_name_chars [] e = absurd (false≢true e)
 is_name_chars (c ∷ cs) e =
-    let h = and_parts (is_start c) (all_name_chars cs) e in
-    (and_from (is_name_char c) (all_name_chars cs) (or_left (is_start c) (within further_ranges c) h.0) h.1, omega arith)
+    let h = and_parts (is_start c) (list_all is_name_char cs) e in
+    (and_from (is_name_char c) (list_all is_name_char cs) (or_left (is_start c) (within further_ranges c) h.0) h.1, omega arith)
 
 -- a name holds no delimiter
 pub name_plain : {n : Bytes} → Name n → Each plain n

@@ -1,8 +1,7 @@
 -- The readings worked by hand, derived, and the bytes that have none, scanned.
-use Rattle.std.proofs.Common.{◌≡◌, ℕ, ◌<◌, Bool, true, not, ◌&&◌, List, [], ◌∷◌, ◌++◌, length, codes, refl, ap, arith}
+use Rattle.std.proofs.Common.{◌≡◌, ℕ, ◌<◌, Bool, true, not, List, [], ◌∷◌, ◌++◌, length, codes, refl, ap, arith}
 use lib.Utf8.{encode, encodes, scalars}
-use Rattle.std.specs.List.{AllByRecursion as All}
-use Rattle.std.proofs.ByRecursion.{All-append}
+use Rattle.std.specs.List.{AllByRecursion, list_all}
 use Rattle.std.specs.Str.{chars}
 use Rattle.std.proofs.lemmas.Str.{encodes-chars}
 use Rattle.std.proofs.lemmas.Bool.{and_parts, not-true, both_ways}
@@ -14,7 +13,6 @@ use Rattle.xml.specs.Reading.{AttValue, value_end, value_raw, value_reference, a
 use Rattle.reader.specs.Trees.{Bytes, Nodes, Tree, before}
 use Rattle.reader.specs.Reader.{attribs_end, attribs_more, empty_tag, spaced_empty_tag, tags, content_end, content_element, row_end, row_more, Reads}
 use Rattle.reader.specs.Examples.{titled, white_space, repeated, ExampleReads, ExampleUnreadable, unreadable_text, unreadable_tags, unreadable_rows, unreadable_bytes}
-use Rattle.reader.proofs.Bytewise.{each}
 use Rattle.reader.proofs.Scanner.{scan, at_end}
 use Rattle.reader.proofs.Written.{value_byte_same}
 use Rattle.reader.proofs.OneReading.{start, scan_reads}
@@ -28,16 +26,16 @@ word s a b c = record { chars = s; scalar = a; spelt = b; is = c }
 abbrev harmless : Use → ℕ → Bool
 harmless u b = not (asked u b)
 
-raw_text : (s : Bytes) {c : Bytes} {ns : Nodes} → each (harmless Text) s ≡ true → Calm c ns → Calm (s ++ c) (before s ns)
+raw_text : (s : Bytes) {c : Bytes} {ns : Nodes} → list_all (harmless Text) s ≡ true → Calm c ns → Calm (s ++ c) (before s ns)
 raw_text [] e k = k
 raw_text (b ∷ s) e k =
-    let h = and_parts (harmless Text b) (each (harmless Text) s) e in
+    let h = and_parts (harmless Text b) (list_all (harmless Text) s) e in
     calm_raw (not-true (asked Text b) h.0) (raw_text s h.1 k)
 
-raw_value : (s : Bytes) {c v : Bytes} → each (harmless Attribute) s ≡ true → AttValue c v → AttValue (s ++ c) (s ++ v)
+raw_value : (s : Bytes) {c v : Bytes} → list_all (harmless Attribute) s ≡ true → AttValue c v → AttValue (s ++ c) (s ++ v)
 raw_value [] e k = k
 raw_value (b ∷ s) e k =
-    let h = and_parts (harmless Attribute b) (each (harmless Attribute) s) e in
+    let h = and_parts (harmless Attribute b) (list_all (harmless Attribute) s) e in
     value_byte_same (not-true (asked Attribute b) h.0) (raw_value s h.1 k)
 
 titled_reads : Reads titled.bytes titled.says
@@ -80,16 +78,12 @@ Unreadable bs = (ts : List Tree) → Reads bs ts → ⊥
 no_reading : (bs : Bytes) → unreadable bs ≡ true → Unreadable bs
 no_reading bs e ts p = both_ways (at_end (scan start (lines bs))) (not-true (at_end (scan start (lines bs))) e) (ap at_end (scan_reads p))
 
--- the same for each of a list
-abbrev all_unreadable : List Bytes → Bool
-all_unreadable [] = true
-all_unreadable (bs ∷ more) = unreadable bs && all_unreadable more
-
-no_readings : (xs : List Bytes) → all_unreadable xs ≡ true → All Unreadable xs
-no_readings [] e = tt
-no_readings (bs ∷ more) e =
-    let h = and_parts (unreadable bs) (all_unreadable more) e in
-    (no_reading bs h.0, no_readings more h.1)
+-- the same for each of a list, in front of others
+no_readings : (xs ys : List Bytes) → list_all unreadable xs ≡ true → AllByRecursion Unreadable ys → AllByRecursion Unreadable (xs ++ ys)
+no_readings [] ys e more = more
+no_readings (bs ∷ xs) ys e more =
+    let h = and_parts (unreadable bs) (list_all unreadable xs) e in
+    (no_reading bs h.0, no_readings xs ys h.1 more)
 
 not_utf8 : (bs : Bytes) → length (encodes (chars bs)) < length bs → Unreadable bs
 not_utf8 bs l ts p = omega (arith, ap length (encodes-chars bs p.0))
@@ -98,4 +92,4 @@ pub example_unreadable : ExampleUnreadable
 unfolding chars encode
 example_unreadable =
     let scanned = unreadable_text ++ (unreadable_tags ++ unreadable_rows) in
-    All-append Unreadable scanned unreadable_bytes (no_readings scanned refl) (not_utf8 (codes "<a>" ++ (128 ∷ codes "</a>")) (omega arith), tt)
+    no_readings scanned unreadable_bytes refl (not_utf8 (codes "<a>" ++ (128 ∷ codes "</a>")) (omega arith), tt)

@@ -6,5 +6,4 @@ pub mod OneReading
 pub mod Sound
 pub mod Calm
 pub mod Written
-pub mod Levels
 pub mod Examples

@@ -1,20 +1,20 @@
 -- Bytes have at most one reading, since the scanner ends with the trees of whatever reading they have.
 use Rattle.std.proofs.Common.{◌≡◌, true, false, not, eqb, List, [], ◌∷◌, ◌++◌, codes, sym, refl, ap, ◌∙◌, ⊎_elim, append_assoc}
+use Rattle.std.specs.List.{list_all}
 use Rattle.std.proofs.lemmas.Bool.{ne_eqb, not-true, and_left, and_right, and_cases, and_parts, both_ways}
 use Rattle.xml.specs.Reading.{begins, lines}
 use Rattle.reader.specs.Trees.{Bytes, Attributes, Nodes, done, text, elem, Tree, tree, ◌▹◌}
 use Rattle.reader.specs.Reader.{Element, empty_tag, spaced_empty_tag, tags, Content, content_end, content_raw, content_reference, content_element, Row, row_end, row_more, Reads}
 use Rattle.reader.specs.Laws.{OneReading}
 use Rattle.reader.proofs.Tidy.{◌⊕◌, ⊕_assoc, alone}
-use Rattle.reader.proofs.Bytewise.{each}
 use Rattle.reader.proofs.Scanner.{Around, outermost, inside, adds, children, Scan, saying, opened, naming, spaced, slashed, leaving, scan, then, scan_tag, scan_end, scan_reference, exactly_self, named_is}
 
 -- a content is followed by <, so that ]]> does not begin in it and end behind it
-before_tag : (xs c rest : Bytes) → each (λ x. not (eqb x 60)) xs ≡ true → begins xs c ≡ false → begins xs (c ++ (60 ∷ rest)) ≡ false
+before_tag : (xs c rest : Bytes) → list_all (λ x. not (eqb x 60)) xs ≡ true → begins xs c ≡ false → begins xs (c ++ (60 ∷ rest)) ≡ false
 before_tag [] c rest h e = absurd (both_ways true e refl)
-before_tag (x ∷ xs) [] rest h e = and_left (eqb x 60) (begins xs rest) (not-true (eqb x 60) (and_parts (not (eqb x 60)) (each (λ x. not (eqb x 60)) xs) h).0)
+before_tag (x ∷ xs) [] rest h e = and_left (eqb x 60) (begins xs rest) (not-true (eqb x 60) (and_parts (not (eqb x 60)) (list_all (λ x. not (eqb x 60)) xs) h).0)
 before_tag (x ∷ xs) (b ∷ c) rest h e =
-    ⊎_elim (λ k. and_left (eqb x b) (begins xs (c ++ (60 ∷ rest))) k) (λ k. and_right (eqb x b) (begins xs (c ++ (60 ∷ rest))) (before_tag xs c rest (and_parts (not (eqb x 60)) (each (λ x. not (eqb x 60)) xs) h).1 k)) (and_cases (eqb x b) (begins xs c) e)
+    ⊎_elim (λ k. and_left (eqb x b) (begins xs (c ++ (60 ∷ rest))) k) (λ k. and_right (eqb x b) (begins xs (c ++ (60 ∷ rest))) (before_tag xs c rest (and_parts (not (eqb x 60)) (list_all (λ x. not (eqb x 60)) xs) h).1 k)) (and_cases (eqb x b) (begins xs c) e)
 
 -- an element from < to >, and a content up to the < behind it
 mutual

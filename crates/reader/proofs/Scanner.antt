@@ -8,10 +8,11 @@ use Rattle.std.proofs.lemmas.Str.{chars_from_encodes}
 use Rattle.xml.specs.Names.{Name, is_name}
 use Rattle.xml.specs.Escaping.{among}
 use Rattle.xml.specs.Reading.{Reference, lt, gt, apos, amp, quot, tab, line_feed, carriage_return, space, AttValue, value_end, value_raw, value_reference, begins, value_byte}
+use Rattle.xml.proofs.Free.{apart}
 use Rattle.reader.specs.Trees.{Bytes, Attributes, Nodes, done, elem, ◌▹◌}
 use Rattle.reader.specs.Reader.{Attribs, attribs_end, attribs_more}
 use Rattle.reader.proofs.Tidy.{◌⊕◌}
-use Rattle.reader.proofs.Bytewise.{Each, each_here, each_rest, apart}
+use Rattle.reader.proofs.Bytewise.{Each, each_here, each_rest}
 use Rattle.reader.proofs.Characters.{plain, delimiters, name_plain, name_first, name_utf8}
 
 -- the elements that are open, each with its children so far

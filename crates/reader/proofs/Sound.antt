@@ -1,24 +1,26 @@
 -- Bytes that pass the reader's first two steps unchanged: they are UTF-8, and hold no 13, so that no line end is handled.
-use Rattle.std.proofs.Common.{◌≡◌, ℕ, zero, suc, ◌<◌, ◌≤◌, Bool, true, false, not, ◌&&◌, eqb, ltb, List, [], ◌∷◌, ◌++◌, get_or, codes, IsUtf8, sym, refl, ap, ◌∙◌, subst, ⊎_elim, append_assoc, arith}
+use Rattle.std.proofs.Common.{◌≡◌, ℕ, zero, suc, ◌<◌, ◌≤◌, Bool, true, false, not, ◌&&◌, ltb, List, [], ◌∷◌, ◌++◌, get_or, codes, IsUtf8, refl, ap, subst, ⊎_elim, arith}
 use lib.Utf8.{encode, encodes, scalar, scalars}
+use Rattle.std.specs.List.{list_all}
 use Rattle.std.proofs.lemmas.List.{append-nil}
+use Rattle.std.proofs.lemmas.Grind.{flat_map-append}
 use Rattle.std.proofs.lemmas.Str.{IsUtf8-append, IsUtf8-encode, IsUtf8-from_ascii, encode_ascii}
-use Rattle.std.proofs.lemmas.Bool.{and_parts, cond_both, cases_lt, cases_Bool, ltb-true, ne_eqb, not-true, not_from_false, both_ways}
+use Rattle.std.proofs.lemmas.Bool.{and_parts, cond_both, cases_lt, cases_Bool, ltb-true, not-true, not_from_false, both_ways}
 use Rattle.xml.specs.Names.{Name}
-use Rattle.xml.specs.Escaping.{among, nine, asked, replacement, piece, escaped, Lawful}
-use Rattle.xml.specs.Reading.{Reference, lt, gt, apos, amp, quot, tab, line_feed, carriage_return, space, lines}
+use Rattle.xml.specs.Escaping.{among, nine, must, asked, replacement, piece, escaped, Lawful}
+use Rattle.xml.specs.Reading.{Reference, lt, gt, apos, amp, quot, tab, line_feed, carriage_return, space}
 use Rattle.xml.specs.declared.escape.Use.{Use}
 use Rattle.xml.specs.declared.escape.Use.TheVariants.{Text, Attribute, TextItem, AttributeItem}
-use Rattle.xml.proofs.Nine.{nine_reference}
+use Rattle.xml.specs.Back.{free}
+use Rattle.xml.specs.Levels.{of_each}
+use Rattle.xml.proofs.Nine.{nine_reference, nines, inside}
+use Rattle.xml.proofs.Free.{apart, free-++, free_escaped}
 use Rattle.reader.specs.Trees.{Bytes}
-use Rattle.reader.proofs.Bytewise.{Each, each, each_here, each_rest, each_more, each-++, each_weaker, among_all, apart}
+use Rattle.reader.proofs.Bytewise.{Each, each_here, each_rest, each_weaker, each_free}
 use Rattle.reader.proofs.Characters.{char_each, delimiters, name_plain, name_utf8}
 
-abbrev pub returnless : ℕ → Bool
-returnless b = not (eqb b 13)
-
 pub record Sound (s : Bytes) : Type 0 where
-  pub free : Each returnless s
+  pub returnless : free (13 ∷ []) s ≡ true
   pub utf8 : IsUtf8 s
 
 -- bytes that the reader takes by the rule R as a, wherever they stand
@@ -27,31 +29,26 @@ pub record Written {A : Type 0} (R : Bytes → A → Type 0) (s : Bytes) (a : A)
   pub sound : Sound s
 
 pub sound-++ : {s t : Bytes} → Sound s → Sound t → Sound (s ++ t)
-sound-++ {s} {t} h k = record { free = each-++ h.free k.free; utf8 = IsUtf8-append s t h.utf8 k.utf8 }
-
--- without 13 the handling of line ends changes nothing
-pub lines_same : {s : Bytes} → Each returnless s → lines s ≡ s
-lines_same {s = []} h = refl
-lines_same {s = b ∷ s} h = rw (not-true (eqb b 13) (each_here h)) (ap (λ x. b ∷ x) (lines_same (each_rest h)))
+sound-++ {s} {t} h k = record { returnless = free-++ (13 ∷ []) s t h.returnless k.returnless; utf8 = IsUtf8-append s t h.utf8 k.utf8 }
 
 -- ASCII other than 13
 abbrev pub mild : ℕ → Bool
-mild b = ltb b 128 && not (eqb b 13)
+mild b = ltb b 128 && not (among b (13 ∷ []))
 
 pub sound_mild : {s : Bytes} → Each mild s → Sound s
-sound_mild {s} h = record { free = each_weaker returnless (λ b e. (and_parts (ltb b 128) (not (eqb b 13)) e).1) h; utf8 = IsUtf8-from_ascii s (ascii s h) }
+sound_mild {s} h = record { returnless = each_free (13 ∷ []) (each_weaker (λ b. not (among b (13 ∷ []))) (λ b e. (and_parts (ltb b 128) (not (among b (13 ∷ []))) e).1) h); utf8 = IsUtf8-from_ascii s (ascii s h) }
   where
     ascii : (s : Bytes) → Each mild s → (i : ℕ) → get_or s i 0 < 128
     ascii [] h i = omega arith
-    ascii (b ∷ s) h zero = ltb-true b 128 (and_parts (ltb b 128) (not (eqb b 13)) (each_here h)).0
+    ascii (b ∷ s) h zero = ltb-true b 128 (and_parts (ltb b 128) (not (among b (13 ∷ []))) (each_here h)).0
     ascii (b ∷ s) h (suc i) = ascii s (each_rest h) i
 
--- bytes that are written out: `sound-bytes (codes "</") refl`
-pub sound_bytes : (s : Bytes) → each mild s ≡ true → Sound s
+-- bytes that are written out: `sound_bytes (codes "</") refl`
+pub sound_bytes : (s : Bytes) → list_all mild s ≡ true → Sound s
 sound_bytes s e = sound_mild (record { is = e })
 
 pub sound_name : {n : Bytes} → Name n → Sound n
-sound_name h = record { free = each_weaker returnless (λ b e. not_from_false (eqb b 13) (apart b 13 delimiters (not-true (among b delimiters) e) refl)) (name_plain h); utf8 = name_utf8 h }
+sound_name h = record { returnless = each_free (13 ∷ []) (each_weaker (λ b. not (among b (13 ∷ []))) (λ b e. rw (apart b 13 delimiters (not-true (among b delimiters) e) refl)) (name_plain h)); utf8 = name_utf8 h }
 
 -- each of the nine references
 pub reference_mild : {r : Bytes} {b : ℕ} → Reference r b → (x : Bytes) × (r ≡ 38 ∷ x) × Each mild r
@@ -65,18 +62,10 @@ reference_mild line_feed = (codes "#10;", refl, record { is = refl })
 reference_mild carriage_return = (codes "#13;", refl, record { is = refl })
 reference_mild space = (codes "#32;", refl, record { is = refl })
 
--- the nine bytes
-abbrev nines : Bytes
-nines = 60 ∷ 62 ∷ 39 ∷ 38 ∷ 34 ∷ 9 ∷ 10 ∷ 13 ∷ 32 ∷ []
-
 nine_low : (b : ℕ) → nine b ≡ true → b < 128
-nine_low b e = among_all (λ x. x < 128) nines (omega arith) b e
+nine_low b e = of_each (λ x. x < 128) nines b (omega arith) e
 
 module _ (chosen : ℕ → Bool) where
-  pub escaped-++ : (s t : Bytes) → escaped chosen (s ++ t) ≡ escaped chosen s ++ escaped chosen t
-  escaped-++ [] t = refl
-  escaped-++ (b ∷ s) t = ap (λ x. piece chosen b ++ x) (escaped-++ s t) ∙ sym (append_assoc (piece chosen b) (escaped chosen s) (escaped chosen t))
-
   unchosen : {s : Bytes} → Each (λ b. not (chosen b)) s → escaped chosen s ≡ s
   unchosen {s = []} h = refl
   unchosen {s = b ∷ s} h = rw (not-true (chosen b) (each_here h)) (ap (λ x. b ∷ x) (unchosen (each_rest h)))
@@ -100,7 +89,7 @@ module _ (chosen : ℕ → Bool) where
     chars_utf8 [] e = ([], (refl, refl))
     chars_utf8 (c ∷ cs) e =
         let h = and_parts (scalar c) (scalars cs) e in
-        rw (escaped-++ (encode c) (encodes cs)) (IsUtf8-append (escaped chosen (encode c)) (escaped chosen (encodes cs)) (char_utf8 c h.0) (chars_utf8 cs h.1))
+        rw (flat_map-append (piece chosen) (encode c) (encodes cs)) (IsUtf8-append (escaped chosen (encode c)) (escaped chosen (encodes cs)) (char_utf8 c h.0) (chars_utf8 cs h.1))
 
     -- a text escaped is a text
     pub escaped_utf8 : {s : Bytes} → IsUtf8 s → IsUtf8 (escaped chosen s)
@@ -111,7 +100,7 @@ pub unasked : {u : Use} {chosen : ℕ → Bool} → Lawful u chosen → (b : ℕ
 unasked {u} {chosen} l b e = ⊎_elim (λ k. absurd (both_ways (chosen b) e (l.enough b k))) (λ k. k) (cases_Bool (asked u b))
 
 -- every use asks for 13
-asks_return : (u : Use) → asked u 13 ≡ true
+asks_return : (u : Use) → inside (13 ∷ []) (must u) ≡ true
 asks_return Text = refl
 asks_return Attribute = refl
 asks_return TextItem = refl
@@ -119,13 +108,4 @@ asks_return AttributeItem = refl
 
 -- an escaped text is sound in every use
 pub sound_escaped : {u : Use} {chosen : ℕ → Bool} {s : Bytes} → Lawful u chosen → IsUtf8 s → Sound (escaped chosen s)
-sound_escaped {u} {chosen} {s} l h = record { free = free s; utf8 = escaped_utf8 chosen l.within h }
-  where
-    byte : (b : ℕ) → Each returnless (piece chosen b)
-    byte b =
-        cond_both (chosen b) (replacement b) (b ∷ []) (Each returnless) (λ e. (sound_mild (reference_mild (nine_reference b (l.within b e))).2).free) (λ e.
-        each_more b [] (not_from_false (eqb b 13) (ne_eqb b 13 (λ k. both_ways (chosen b) e (rw k (l.enough 13 (asks_return u)))))) (record { is = refl }))
-
-    free : (s : Bytes) → Each returnless (escaped chosen s)
-    free [] = record { is = refl }
-    free (b ∷ s) = each-++ (byte b) (free s)
+sound_escaped {u} {chosen} {s} l h = record { returnless = free_escaped l (13 ∷ []) (asks_return u) refl s; utf8 = escaped_utf8 chosen l.within h }

@@ -6,22 +6,24 @@ use Rattle.xml.specs.declared.escape.Use.TheVariants.{Text, Attribute, TextItem,
 use Rattle.xml.specs.Names.{Name}
 use Rattle.xml.specs.Escaping.{asked, must, replacement, piece, escaped, Lawful}
 use Rattle.xml.specs.Reading.{AttValue, value_end, value_raw, value_reference, value_byte}
+use Rattle.xml.specs.Levels.{of_all}
 use Rattle.xml.proofs.Nine.{nine_reference}
+use Rattle.xml.proofs.Free.{apart}
+use Rattle.xml.proofs.Escapes.{lines_same, value_back}
 use Rattle.reader.specs.Trees.{Bytes, Attributes, Nodes, done, Tree, empty, ◌▹◌, before}
 use Rattle.reader.specs.Reader.{Attribs, attribs_end, attribs_more, Element, empty_tag, spaced_empty_tag, tags, Row, row_end, row_more, Reads, ReadsExactly}
 use Rattle.reader.proofs.Tidy.{◌⊕◌, ⊕_texts, alone}
-use Rattle.reader.proofs.Bytewise.{among_all, apart}
 use Rattle.reader.proofs.OneReading.{one_reading}
-use Rattle.reader.proofs.Sound.{Sound, sound-++, sound_bytes, sound_name, sound_escaped, lines_same, Written, unasked}
+use Rattle.reader.proofs.Sound.{Sound, sound-++, sound_bytes, sound_name, sound_escaped, Written, unasked}
 use Rattle.reader.proofs.Calm.{Calm, calm_end, calm_raw, calm_reference, calm_element, calm-++, read_calm}
 
 -- what an item's use asks for, a string's use asks for less of
 pub text_of_item : {chosen : ℕ → Bool} → Lawful TextItem chosen → Lawful Text chosen
-text_of_item {chosen} l = record { within = l.within; enough = λ b e. l.enough b (among_all (λ x. asked TextItem x ≡ true) (must Text) (refl, (refl, (refl, (refl, tt)))) b e) }
+text_of_item {chosen} l = record { within = l.within; enough = λ b e. l.enough b (of_all (asked TextItem) (must Text) b refl e) }
 
 pub attribute_of_item : {chosen : ℕ → Bool} → Lawful AttributeItem chosen → Lawful Attribute chosen
 attribute_of_item {chosen} l =
-    record { within = l.within; enough = λ b e. l.enough b (among_all (λ x. asked AttributeItem x ≡ true) (must Attribute) (refl, (refl, (refl, (refl, (refl, (refl, tt)))))) b e) }
+    record { within = l.within; enough = λ b e. l.enough b (of_all (asked AttributeItem) (must Attribute) b refl e) }
 
 -- two parts one after the other, by any rule that joins them
 written-++ : {A : Type 0} {R : Bytes → A → Type 0} {a b : Bytes} {x y z : A} → (R a x → R b y → R (a ++ b) z) → Written R a x → Written R b y → Written R (a ++ b) z
@@ -80,14 +82,7 @@ value_byte_same {b} {c} {v} e k =
     rw (other 9 refl, other 10 refl) at r
 
 pub string_value : {chosen : ℕ → Bool} {s : Bytes} → Lawful Attribute chosen → IsUtf8 s → Written AttValue (escaped chosen s) s
-string_value {chosen} {s} l h = record { reads = value s; sound = sound_escaped l h }
-  where
-    byte : (b : ℕ) {c v : Bytes} → AttValue c v → AttValue (piece chosen b ++ c) (b ∷ v)
-    byte b {c} {v} k = cond_both (chosen b) (replacement b) (b ∷ []) (λ p. AttValue (p ++ c) (b ∷ v)) (λ e. value_reference (nine_reference b (l.within b e)) k) (λ e. value_byte_same (unasked l b e) k)
-
-    value : (s : Bytes) → AttValue (escaped chosen s) s
-    value [] = value_end
-    value (b ∷ s) = byte b (value s)
+string_value {s} l h = record { reads = value_back l refl s; sound = sound_escaped l h }
 
 pub item_value : {chosen : ℕ → Bool} {s : Bytes} → Lawful AttributeItem chosen → IsUtf8 s → Written AttValue (escaped chosen s) s
 item_value l h = string_value (attribute_of_item l) h
@@ -155,7 +150,7 @@ row_one h = record { reads = rw append-nil at (row_more h.reads row_end); sound 
 
 -- the reader reads such a row
 pub row_reads : {bs : Bytes} {ts : List Tree} → Written Row bs ts → Reads bs ts
-row_reads {bs} {ts} h = (h.sound.utf8, rw (lines_same h.sound.free) h.reads)
+row_reads {bs} {ts} h = (h.sound.utf8, rw (lines_same bs h.sound.returnless) h.reads)
 
 pub row_reads_exactly : {bs : Bytes} {ts : List Tree} → Written Row bs ts → ReadsExactly bs ts
 row_reads_exactly {bs} {ts} h = record { reads = row_reads h; only = λ us k. one_reading bs us ts k (row_reads h) }

@@ -18,7 +18,7 @@ pub enum EmptyElementHandling {
 }
 
 /// The form of empty tags and the indentation. Its indent byte is a tab or a space and its size at most 16, always.
-#[derive(Clone, Copy)]
+#[derive(Clone, Copy, PartialEq, Eq, Debug)]
 pub struct Style {
     empty_elements: EmptyElementHandling,
     indentation: Option<Indentation>,
@@ -32,15 +32,15 @@ impl Style {
     ) -> Result<Style, Refusal>
         ensures cases { MatchResult result (λ s. (s.empty_elements ≡ empty_elements) × (s.indentation ≡ indentation)) (λ e. (allowed indentation ≡ false) × Refuses 10 0 e) }
     {
-        if let Some(indent) = indentation {
-            if !matches!(indent.byte, b'\t' | b' ') || indent.size > 16 {
-                return Err(Refusal::Style);
+        match indentation {
+            Some(indent) if !matches!(indent.byte, b'\t' | b' ') || indent.size > 16 => {
+                Err(Refusal::Style)
             }
+            _ => Ok(Style {
+                empty_elements,
+                indentation,
+            }),
         }
-        Ok(Style {
-            empty_elements,
-            indentation,
-        })
     }
 
     pub fn empty_elements(&self) -> EmptyElementHandling

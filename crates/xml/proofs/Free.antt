@@ -9,7 +9,7 @@ use Rattle.xml.specs.Back.{free}
 use Rattle.xml.specs.Levels.{of_all}
 use Rattle.xml.proofs.Nine.{nines, inside}
 
-free-++ : (bars cs bs : List ℕ) → free bars cs ≡ true → free bars bs ≡ true → free bars (cs ++ bs) ≡ true
+pub free-++ : (bars cs bs : List ℕ) → free bars cs ≡ true → free bars bs ≡ true → free bars (cs ++ bs) ≡ true
 free-++ bars [] bs h k = k
 free-++ bars (c ∷ cs) bs h k = let p = and_parts (not (among c bars)) (free bars cs) h in and_from (not (among c bars)) (free bars (cs ++ bs)) p.0 (free-++ bars cs bs p.1 k)
 
