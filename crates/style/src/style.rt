@@ -32,15 +32,14 @@ impl Style {
     ) -> Result<Style, Refusal>
         ensures cases { MatchResult result (λ s. (s.empty_elements ≡ empty_elements) × (s.indentation ≡ indentation)) (λ e. (allowed indentation ≡ false) × Refuses 10 0 e) }
     {
-        match indentation {
-            Some(indent) if !matches!(indent.byte, b'\t' | b' ') || indent.size > 16 => {
-                Err(Refusal::Style)
-            }
-            _ => Ok(Style {
-                empty_elements,
-                indentation,
-            }),
+        let barred = |indent: Indentation| !matches!(indent.byte, b'\t' | b' ') || indent.size > 16;
+        if indentation.is_some_and(barred) {
+            return Err(Refusal::Style);
         }
+        Ok(Style {
+            empty_elements,
+            indentation,
+        })
     }
 
     pub fn empty_elements(&self) -> EmptyElementHandling
