@@ -7,7 +7,7 @@ use Rattle.reader.specs.Trees.{Bytes, Attributes, Nodes, done, text, elem, Tree,
 use Rattle.reader.specs.Reader.{Element, empty_tag, spaced_empty_tag, tags, Content, content_end, content_raw, content_reference, content_element, Row, row_end, row_more, Reads}
 use Rattle.reader.specs.Laws.{OneReading}
 use Rattle.reader.proofs.Tidy.{◌⊕◌, ⊕_assoc, alone}
-use Rattle.reader.proofs.Scanner.{Around, outermost, inside, adds, children, Scan, saying, opened, naming, spaced, slashed, leaving, scan, then, scan_tag, scan_end, scan_reference, exactly_self, named_is}
+use Rattle.reader.proofs.Scanner.{Around, outermost, inside, adds, children, Scan, saying, opened, naming, spaced, slashed, leaving, scan, then, scan_tag, scan_end, scan_reference, bytes_eq_self, named_is}
 
 -- a content is followed by <, so that ]]> does not begin in it and end behind it
 before_tag : (xs c rest : Bytes) → list_all (λ x. not (eqb x 60)) xs ≡ true → begins xs c ≡ false → begins xs (c ++ (60 ∷ rest)) ≡ false
@@ -29,7 +29,7 @@ mutual
       ∙ then (naming n at o) (saying (children (inside n at o done))) 62 ((c ++ (codes "</" ++ (n ++ codes ">"))) ++ rest) (rw (named_is h))
       ∙ rw (append_assoc c (codes "</" ++ (n ++ codes ">")) rest, append_assoc n (codes ">") rest) (scan_content k n at o done refl close)
       ∙ scan_end h (inside n at o ns) (codes ">" ++ rest)
-      ∙ then (leaving n (inside n at o ns)) (saying (children (adds (elem n at ns done) o))) 62 rest (rw (exactly_self n))
+      ∙ then (leaving n (inside n at o ns)) (saying (children (adds (elem n at ns done) o))) 62 rest (rw (bytes_eq_self n))
 
   scan_content : {c : Bytes} {ns : Nodes} → Content c ns → (n : Bytes) (at : Attributes) (o : Around) (ks : Nodes) → ks ⊕ done ≡ ks → (rest : Bytes) → scan (saying (children (inside n at o ks))) (c ++ (60 ∷ rest)) ≡ scan (opened (inside n at o (ks ⊕ ns))) rest
   scan_content content_end n at o ks e rest = ap (λ x. scan (opened (inside n at o x)) rest) (sym e)

@@ -1,10 +1,11 @@
 -- A scanner that goes over the bytes once and stops at the first fault. Whatever reading the bytes have, the scanner ends
 -- with its trees: so there is at most one, and none where the scanner stops.
 use Rattle.std.proofs.Common.{◌≡◌, ℕ, Bool, true, false, cond, ◌&&◌, eqb, List, [], ◌∷◌, ◌++◌, codes, sym, refl, ap, ◌∙◌, append_assoc}
-use Rattle.std.specs.Str.{chars}
+use Rattle.std.specs.Str.{chars, bytes_eq}
 use Rattle.std.proofs.lemmas.List.{append-nil}
-use Rattle.std.proofs.lemmas.Bool.{and_from, eq-eqb, ne_eqb, not-true}
+use Rattle.std.proofs.lemmas.Bool.{ne_eqb, not-true}
 use Rattle.std.proofs.lemmas.Str.{chars_from_encodes}
+use Rattle.std.proofs.lemmas.Slice.Eq.{bytes_eq-Decides}
 use Rattle.xml.specs.Names.{Name, is_name}
 use Rattle.xml.specs.Escaping.{among}
 use Rattle.xml.specs.Reading.{Reference, lt, gt, apos, amp, quot, tab, line_feed, carriage_return, space, AttValue, value_end, value_raw, value_reference, begins, value_byte}
@@ -53,10 +54,6 @@ says b (children (outermost ks)) = fault
 says b (children (inside n at o ks)) = saying (children (inside n at o (ks ⊕ (b ▹ done))))
 says b (value n at k v o) = saying (value n at k (v ++ b ∷ []) o)
 
--- the same bytes
-abbrev exactly : Bytes → Bytes → Bool
-exactly r s = begins r s && begins s r
-
 -- a name, as a test
 abbrev named : Bytes → Bool
 named n = is_name (chars n)
@@ -68,7 +65,7 @@ nine_words = (codes "lt", 60) ∷ (codes "gt", 62) ∷ (codes "apos", 39) ∷ (c
 -- a reference is read as the byte that it stands for
 abbrev refers : List (Bytes × ℕ) → Bytes → Spot → Scan
 refers [] r s = fault
-refers (w ∷ ws) r s = cond (exactly r w.0) (says w.1 s) (refers ws r s)
+refers (w ∷ ws) r s = cond (bytes_eq r w.0) (says w.1 s) (refers ws r s)
 
 -- a byte, not &, with the bytes behind it
 abbrev raw_step : Spot → ℕ → Bytes → Scan
@@ -87,7 +84,7 @@ in_tag n at o b = cond (eqb b 32) (spaced n at o) (cond (eqb b 47) (slashed n at
 -- an end tag with the name m
 abbrev leaves : Bytes → Around → Scan
 leaves m (outermost ks) = fault
-leaves m (inside n at o ks) = cond (exactly m n) (saying (children (adds (elem n at ks done) o))) fault
+leaves m (inside n at o ks) = cond (bytes_eq m n) (saying (children (adds (elem n at ks done) o))) fault
 
 -- one byte on, with a look at the bytes behind it
 abbrev step : Scan → ℕ → Bytes → Scan
@@ -156,12 +153,8 @@ scan_key h n at o rest = gathers_all (λ m. keying n at m o) (λ m b r e. rw e) 
 pub scan_end : {n : Bytes} → Name n → (o : Around) (rest : Bytes) → scan (leaving [] o) (n ++ rest) ≡ scan (leaving n o) rest
 scan_end {n} h o rest = gathers (λ m. leaving m o) (λ m b r e. rw e) [] n rest (name_plain h)
 
-pub exactly_self : (n : Bytes) → exactly n n ≡ true
-exactly_self n = and_from (begins n n) (begins n n) (self n) (self n)
-  where
-    self : (n : Bytes) → begins n n ≡ true
-    self [] = refl
-    self (b ∷ n) = and_from (eqb b b) (begins n n) (eq-eqb b b refl) (self n)
+pub bytes_eq_self : (n : Bytes) → bytes_eq n n ≡ true
+bytes_eq_self n = (bytes_eq-Decides n n).1 refl
 
 pub named_is : {n : Bytes} → Name n → named n ≡ true
 named_is {n} h = ap is_name (sym (chars_from_encodes h.chars n (name_utf8 h) h.spelt)) ∙ h.is

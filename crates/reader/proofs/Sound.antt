@@ -1,13 +1,13 @@
 -- Bytes that pass the reader's first two steps unchanged: they are UTF-8, and hold no 13, so that no line end is handled.
-use Rattle.std.proofs.Common.{◌≡◌, ℕ, zero, suc, ◌<◌, ◌≤◌, Bool, true, false, not, ◌&&◌, ltb, List, [], ◌∷◌, ◌++◌, get_or, codes, IsUtf8, refl, ap, subst, ⊎_elim, arith}
+use Rattle.std.proofs.Common.{◌≡◌, ℕ, zero, suc, ◌<◌, ◌≤◌, Bool, true, not, ◌&&◌, ltb, List, [], ◌∷◌, ◌++◌, get_or, codes, IsUtf8, refl, ap, subst, ⊎_elim, arith}
 use lib.Utf8.{encode, encodes, scalar, scalars}
 use Rattle.std.specs.List.{list_all}
 use Rattle.std.proofs.lemmas.List.{append-nil}
 use Rattle.std.proofs.lemmas.Grind.{flat_map-append}
 use Rattle.std.proofs.lemmas.Str.{IsUtf8-append, IsUtf8-encode, IsUtf8-from_ascii, encode_ascii}
-use Rattle.std.proofs.lemmas.Bool.{and_parts, cond_both, cases_lt, cases_Bool, ltb-true, not-true, not_from_false, both_ways}
+use Rattle.std.proofs.lemmas.Bool.{and_parts, cond_both, cases_lt, cases_Bool, ltb-true, not-true, not_from_false}
 use Rattle.xml.specs.Names.{Name}
-use Rattle.xml.specs.Escaping.{among, nine, must, asked, replacement, piece, escaped, Lawful}
+use Rattle.xml.specs.Escaping.{among, nine, must, replacement, piece, escaped, Lawful}
 use Rattle.xml.specs.Reading.{Reference, lt, gt, apos, amp, quot, tab, line_feed, carriage_return, space}
 use Rattle.xml.specs.declared.escape.Use.{Use}
 use Rattle.xml.specs.declared.escape.Use.TheVariants.{Text, Attribute, TextItem, AttributeItem}
@@ -94,10 +94,6 @@ module _ (chosen : ℕ → Bool) where
     -- a text escaped is a text
     pub escaped_utf8 : {s : Bytes} → IsUtf8 s → IsUtf8 (escaped chosen s)
     escaped_utf8 u = subst (λ s. IsUtf8 (escaped chosen s)) u.1.1 (chars_utf8 u.0 u.1.0)
-
--- what is not chosen is not asked for
-pub unasked : {u : Use} {chosen : ℕ → Bool} → Lawful u chosen → (b : ℕ) → chosen b ≡ false → asked u b ≡ false
-unasked {u} {chosen} l b e = ⊎_elim (λ k. absurd (both_ways (chosen b) e (l.enough b k))) (λ k. k) (cases_Bool (asked u b))
 
 -- every use asks for 13
 asks_return : (u : Use) → inside (13 ∷ []) (must u) ≡ true

@@ -1,5 +1,5 @@
 -- Rows of nodes in which no two texts are neighbours: how they are joined so that this stays so.
-use Rattle.std.proofs.Common.{◌≡◌, ℕ, [], ◌∷◌, ◌++◌, sym, refl, ap, ◌∙◌}
+use Rattle.std.proofs.Common.{◌≡◌, ℕ, [], ◌∷◌, ◌++◌, refl, ap, ◌∙◌}
 use Rattle.reader.specs.Trees.{Bytes, Nodes, done, text, elem, Tree, ◌▹◌, before, tidy, ◌⧺◌}
 
 infixr 60 ◌⊕◌
@@ -33,10 +33,6 @@ pub ⊕_assoc : (ls ns ms : Nodes) → (ls ⊕ ns) ⊕ ms ≡ ls ⊕ (ns ⊕ ms)
 ⊕_assoc (text s ls) ns ms = before-⊕ s (ls ⊕ ns) ms ∙ ap (before s) (⊕_assoc ls ns ms)
 ⊕_assoc (elem n at ks ls) ns ms = ap (elem n at ks) (⊕_assoc ls ns ms)
 
--- two texts one after the other at the end of a row
-pub ⊕_texts : (ns : Nodes) (s t : Bytes) → (ns ⊕ before s done) ⊕ before t done ≡ ns ⊕ before (s ++ t) done
-⊕_texts ns s t = ⊕_assoc ns (before s done) (before t done) ∙ ap (λ x. ns ⊕ x) (before-⊕ s done (before t done) ∙ sym (before-++ s t done))
-
 -- to tidy a row of two parts, tidy each and join them
 pub tidy-⧺ : (ns ms : Nodes) → tidy (ns ⧺ ms) ≡ tidy ns ⊕ tidy ms
 tidy-⧺ done ms = refl
@@ -48,8 +44,3 @@ pub tidy-⊕_done : (ns : Nodes) → tidy ns ⊕ done ≡ tidy ns
 tidy-⊕_done done = refl
 tidy-⊕_done (text s ns) = before-⊕ s (tidy ns) done ∙ ap (before s) (tidy-⊕_done ns)
 tidy-⊕_done (elem n at ks ns) = ap (elem n at ks) (tidy-⊕_done ns)
-
-pub ⧺_assoc : (ls ns ms : Nodes) → (ls ⧺ ns) ⧺ ms ≡ ls ⧺ (ns ⧺ ms)
-⧺_assoc done ns ms = refl
-⧺_assoc (text s ls) ns ms = ap (text s) (⧺_assoc ls ns ms)
-⧺_assoc (elem n at ks ls) ns ms = ap (elem n at ks) (⧺_assoc ls ns ms)

@@ -8,13 +8,13 @@ use Rattle.xml.specs.Escaping.{asked, must, replacement, piece, escaped, Lawful}
 use Rattle.xml.specs.Reading.{AttValue, value_end, value_raw, value_reference, value_byte}
 use Rattle.xml.specs.Levels.{of_all}
 use Rattle.xml.proofs.Nine.{nine_reference}
-use Rattle.xml.proofs.Free.{apart}
+use Rattle.xml.proofs.Free.{apart, unasked}
 use Rattle.xml.proofs.Escapes.{lines_same, value_back}
 use Rattle.reader.specs.Trees.{Bytes, Attributes, Nodes, done, Tree, empty, ◌▹◌, before}
 use Rattle.reader.specs.Reader.{Attribs, attribs_end, attribs_more, Element, empty_tag, spaced_empty_tag, tags, Row, row_end, row_more, Reads, ReadsExactly}
-use Rattle.reader.proofs.Tidy.{◌⊕◌, ⊕_texts, alone}
+use Rattle.reader.proofs.Tidy.{◌⊕◌, alone}
 use Rattle.reader.proofs.OneReading.{one_reading}
-use Rattle.reader.proofs.Sound.{Sound, sound-++, sound_bytes, sound_name, sound_escaped, Written, unasked}
+use Rattle.reader.proofs.Sound.{Sound, sound-++, sound_bytes, sound_name, sound_escaped, Written}
 use Rattle.reader.proofs.Calm.{Calm, calm_end, calm_raw, calm_reference, calm_element, calm-++, read_calm}
 
 -- what an item's use asks for, a string's use asks for less of
@@ -51,13 +51,6 @@ text_child {chosen} {s} l h = record { reads = calm s; sound = sound_escaped l h
     calm [] = calm_end
     calm (b ∷ s) = byte b (calm s)
 
-pub item_child : {chosen : ℕ → Bool} {s : Bytes} → Lawful TextItem chosen → IsUtf8 s → Written Calm (escaped chosen s) (before s done)
-item_child l h = text_child (text_of_item l) h
-
--- one more item of a list, behind the text v of the items before it
-pub next_item_child : {chosen : ℕ → Bool} {c s : Bytes} (ns : Nodes) (v : Bytes) → Written Calm c (ns ⊕ before v done) → Lawful TextItem chosen → IsUtf8 s → Written Calm (c ++ (codes " " ++ escaped chosen s)) (ns ⊕ before (v ++ (codes " " ++ s)) done)
-next_item_child {s} ns v old l h = rw (← ⊕_texts ns v (codes " " ++ s)) (children-++ old (children-++ space_child (item_child l h)))
-
 -- in a value
 
 pub no_value : Written AttValue [] []
@@ -83,12 +76,6 @@ value_byte_same {b} {c} {v} e k =
 
 pub string_value : {chosen : ℕ → Bool} {s : Bytes} → Lawful Attribute chosen → IsUtf8 s → Written AttValue (escaped chosen s) s
 string_value {s} l h = record { reads = value_back l refl s; sound = sound_escaped l h }
-
-pub item_value : {chosen : ℕ → Bool} {s : Bytes} → Lawful AttributeItem chosen → IsUtf8 s → Written AttValue (escaped chosen s) s
-item_value l h = string_value (attribute_of_item l) h
-
-pub next_item_value : {chosen : ℕ → Bool} {c v s : Bytes} → Written AttValue c v → Lawful AttributeItem chosen → IsUtf8 s → Written AttValue (c ++ (codes " " ++ escaped chosen s)) (v ++ (codes " " ++ s))
-next_item_value old l h = value-++ old (value-++ space_value (item_value l h))
 
 -- in a tag
 

@@ -33,6 +33,7 @@ pub enum Refusal {
 
 impl Refusal {
     /// The number in the table, from 1 on.
+    // A match, since a variant that holds an offset has no discriminant to cast.
     pub fn number(&self) -> u8
         ensures value { result ≡ number self.now }
         ensures apart { ToldApart }
@@ -63,6 +64,7 @@ impl Refusal {
     }
 
     /// The table's word for it.
+    // Spelt out, since a derived `Debug` would say `RunOn` and put the offset beside the name.
     pub fn word(&self) -> &'static str
         ensures value { result.now ≡ word self.now }
     {

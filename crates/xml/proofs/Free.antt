@@ -1,9 +1,9 @@
 -- Bytes that stand nowhere, above all in what an escaping rule writes. Assumes nothing.
 use Rattle.std.proofs.Common.{◌≡◌, ℕ, Bool, true, false, cond, not, eqb, ◌≢◌, List, [], ◌∷◌, ◌++◌, sym, refl, subst, ⊎_elim}
 use Rattle.std.specs.List.{list_all, list_any}
-use Rattle.std.proofs.lemmas.Bool.{and_from, and_parts, and_left, and_right, both_ways, ne_eqb, not-true, not_from_false, or_cases, cases_Bool}
+use Rattle.std.proofs.lemmas.Bool.{and_from, and_parts, and_left, and_right, both_ways, eqb-false, ne_eqb, not-true, not_from_false, or_cases, cases_Bool}
 use Rattle.xml.specs.declared.escape.Use.{Use}
-use Rattle.xml.specs.Escaping.{among, replacement, must, piece, escaped, Lawful}
+use Rattle.xml.specs.Escaping.{among, asked, replacement, must, piece, escaped, Lawful}
 use Rattle.xml.specs.Reading.{begins}
 use Rattle.xml.specs.Back.{free}
 use Rattle.xml.specs.Levels.{of_all}
@@ -34,11 +34,14 @@ spares bars = list_all (λ b. free bars (replacement b)) nines
 
 module _ {u : Use} {chosen : ℕ → Bool} (law : Lawful u chosen) where
   -- a byte that is left raw is none of those that the use asks for
+  pub unasked : (b : ℕ) → chosen b ≡ false → asked u b ≡ false
+  unasked b raw = ⊎_elim (λ h. absurd (both_ways (chosen b) raw (law.enough b h))) (λ h. h) (cases_Bool (asked u b))
+
   pub raw_is_none : (b : ℕ) (bars : List ℕ) → inside bars (must u) ≡ true → chosen b ≡ false → among b bars ≡ false
-  raw_is_none b bars i raw = ⊎_elim (λ h. absurd (both_ways (chosen b) raw (law.enough b (of_all (λ x. among x (must u)) bars b i h)))) (λ h. h) (cases_Bool (among b bars))
+  raw_is_none b bars i raw = ⊎_elim (λ h. absurd (both_ways (asked u b) (unasked b raw) (of_all (λ x. among x (must u)) bars b i h))) (λ h. h) (cases_Bool (among b bars))
 
   pub raw_is_not : (b x : ℕ) → among x (must u) ≡ true → chosen b ≡ false → b ≢ x
-  raw_is_not b x h raw e = both_ways (chosen b) raw (law.enough b (subst (λ z. among z (must u) ≡ true) (sym e) h))
+  raw_is_not b x h raw = eqb-false b x (apart b x (must u) (unasked b raw) h)
 
   -- bytes that the use asks for, and that no replacement holds, stand nowhere in what is written
   pub free_escaped : (bars : List ℕ) → inside bars (must u) ≡ true → spares bars ≡ true → (value : List ℕ) → free bars (escaped chosen value) ≡ true

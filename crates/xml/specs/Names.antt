@@ -1,5 +1,5 @@
 -- Names: productions 4, 4a and 5 of XML 1.0, Fifth Edition, and where a name that is none goes wrong. Assumes nothing.
-use Rattle.std.specs.Prelude.{◌≡◌, ℕ, ◌+◌, Bool, false, true, cond, ◌&&◌, ◌||◌, ◌⊎◌, List, [], ◌∷◌, ◌++◌, length, Some, None, Option, nat_le}
+use Rattle.std.specs.Prelude.{◌≡◌, ℕ, ◌+◌, Bool, false, true, cond, ◌&&◌, ◌||◌, ◌⊎◌, List, [], ◌∷◌, ◌++◌, length, Some, None, Option, MatchOption, nat_le}
 use Rattle.std.specs.List.{list_any, list_all}
 use Rattle.std.proofs.Math.Utf8.{scalars, encode, encodes}
 use Rattle.std.specs.Char.{len_utf8}
@@ -61,8 +61,7 @@ pub record FirstAtFault (bs : List ℕ) (k : ℕ) : Type 0 where
 
 -- what a search for the first fault may answer: none for a name, and else the place of the first
 abbrev pub Faults : Option ℕ → List ℕ → Type 0
-Faults None bs = Name bs
-Faults (Some k) bs = FirstAtFault bs k × (Name bs → ⊥)
+Faults found bs = MatchOption found (Name bs) (λ k. FirstAtFault bs k × (Name bs → ⊥))
 
 -- the same as a test that computes: the place of the first character at fault among cs, counted on from `at`
 abbrev pub stray_from : List ℕ → ℕ → Option ℕ

@@ -45,17 +45,14 @@ fn texts(rt: HostRuntime) {
 }
 
 #[test]
-fn a_character_cut_short(rt: HostRuntime) -> Result<(), Fail> {
+fn a_character_cut_short(rt: HostRuntime) {
     let map = b"ab\xF0\x9F\x97\xBAc";
     for end in 3..6 {
-        match well_formed(&map[0..end]) {
-            Ok(_) => return Err(Fail::new("a cut character was taken")),
-            Err(refusal) => assert_eq!(rt; refusal.offset(), 2),
-        }
+        let refused = well_formed(&map[0..end]).err();
+        assert_eq!(rt; refused.map(|refusal| refusal.offset()), Some(2));
     }
     assert!(rt; well_formed(&map[0..6]).is_ok());
     assert!(rt; well_formed(&map[0..2]).is_ok());
-    Ok(())
 }
 
 #[derive(Clone, Copy)]
@@ -142,30 +139,21 @@ const CHARACTERS: &[(&str, Kind)] = &[
 fn name_characters(rt: HostRuntime) -> Result<(), Fail> {
     for (c, kind) in CHARACTERS {
         let behind = format!(in rt.alloc(); "a{c}")?;
-        match kind {
-            Kind::Start => {
-                assert_eq!(rt; fault(c), None, "{}", c);
-                assert_eq!(rt; fault(behind.as_str()), None, "{}", c);
-            }
-            Kind::Inside => {
-                assert_eq!(rt; fault(c), Some((5, 0)), "{}", c);
-                assert_eq!(rt; fault(behind.as_str()), None, "{}", c);
-            }
-            Kind::Neither => {
-                assert_eq!(rt; fault(c), Some((5, 0)), "{}", c);
-                assert_eq!(rt; fault(behind.as_str()), Some((5, 1)), "{}", c);
-            }
-        }
+        let (alone, inside) = match kind {
+            Kind::Start => (None, None),
+            Kind::Inside => (Some((5, 0)), None),
+            Kind::Neither => (Some((5, 0)), Some((5, 1))),
+        };
+        assert_eq!(rt; fault(c), alone, "{}", c);
+        assert_eq!(rt; fault(behind.as_str()), inside, "{}", c);
     }
     Ok(())
 }
 
 // Number and offset where a text is no name.
 fn fault(name: &str) -> Option<(u8, usize)> {
-    match XmlName::try_from(name) {
-        Ok(_) => None,
-        Err(refusal) => Some((refusal.number(), refusal.offset())),
-    }
+    let refused = XmlName::try_from(name).err();
+    refused.map(|refusal| (refusal.number(), refusal.offset()))
 }
 
 #[test]
