@@ -1,47 +1,30 @@
--- Looking for a byte: as long as it was not seen, the cut lies in what is left.
-use Rattle.std.proofs.Common.{◌≡◌, ℕ, ◌+◌, ◌<◌, ◌≤◌, Bool, true, false, cond, eqb, List, [], ◌∷◌, ◌++◌, length, get_or, take, drop, Some, None, Option, unwrap_or, sym, refl, ap, ◌∙◌, append_assoc, append-nil, arith, Bor, eq-eqb, ne_eqb, eqb-true}
+-- Where a text is cut: at a byte that is not in what stands before it.
+use Rattle.std.proofs.Common.{◌≡◌, ℕ, ◌+◌, ◌<◌, ◌≤◌, Bool, true, false, cond, eqb, List, [], ◌∷◌, ◌++◌, length, get_or, take, drop, zero, suc, Some, None, Option, unwrap_or, sym, refl, ap, ◌∙◌, append_assoc, append-nil, arith, Bor, eq-eqb, ne_eqb, eqb-true}
 use borrow.Author.Tests.{eqb-false}
 use Rattle.std.proofs.lemmas.List.{take_more, take_all, at_drop_more, at_drop_all}
 use Rattle.std.specs.Option.{option_map}
 use Rattle.script.specs.Cuts.{before, behind, Lacks, Parts, CutAtTheFirst}
 
--- none of the first i bytes is b
-pub record Unseen (b : ℕ) (text : List ℕ) (i : ℕ) : Type 0 where
-  pub front : before b text ≡ take i text ++ before b (drop i text)
-  pub back : behind b text ≡ behind b (drop i text)
-
-pub unseen_none : (b : ℕ) (text : List ℕ) → Unseen b text 0
-unseen_none b text = record { front = refl; back = refl }
-
--- one more that is not b
-pub unseen_more : (b : ℕ) (text : List ℕ) (i : ℕ) → i < length text → eqb (get_or text i 0) b ≡ false → Unseen b text i → Unseen b text (i + 1)
-unseen_more b text i h e u =
-    let x = get_or text i 0 in
-    let xs = drop (i + 1) text in
-    let later : before b (drop i text) ≡ x ∷ before b xs = at_drop_more (before b) text i 0 h ∙ ap (λ t. cond t [] (x ∷ before b xs)) e in
-    let more : take i text ++ x ∷ before b xs ≡ take (i + 1) text ++ before b xs =
-    sym (append_assoc (take i text) (x ∷ []) (before b xs)) ∙ ap (λ l. l ++ before b xs) (sym (take_more text i 0 h)) in
-    record {
-      front = u.front ∙ ap (λ l. take i text ++ l) later ∙ more;
-      back = u.back ∙ at_drop_more (behind b) text i 0 h ∙ ap (λ t. cond t (Some xs) (behind b xs)) e;
-    }
-
--- b stands at i
-pub cut_here : (b : ℕ) (text : List ℕ) (i : ℕ) → i < length text → eqb (get_or text i 0) b ≡ true → Unseen b text i → (before b text ≡ take i text) × (behind b text ≡ Some (drop (i + 1) text))
-cut_here b text i h e u =
-    let x = get_or text i 0 in
-    let xs = drop (i + 1) text in
-    let none : before b (drop i text) ≡ [] = at_drop_more (before b) text i 0 h ∙ ap (λ t. cond t [] (x ∷ before b xs)) e in (
-      u.front ∙ ap (λ l. take i text ++ l) none ∙ append-nil (take i text),
-      u.back ∙ at_drop_more (behind b) text i 0 h ∙ ap (λ t. cond t (Some xs) (behind b xs)) e,
+-- b stands at i, and nowhere before
+pub cut_here : (b : ℕ) (text : List ℕ) (i : ℕ) → i < length text → ((k : ℕ) → k < i → eqb (get_or text k 0) b ≡ false) → eqb (get_or text i 0) b ≡ true → (before b text ≡ take i text) × (behind b text ≡ Some (drop (suc i) text))
+cut_here b [] i h none here = absurd (omega arith)
+cut_here b (x ∷ xs) zero h none here = (ap (λ t. cond t [] (x ∷ before b xs)) here, ap (λ t. cond t (Some xs) (behind b xs)) here)
+cut_here b (x ∷ xs) (suc i) h none here =
+    let later = cut_here b xs i (omega arith) (λ k l. none (suc k) (omega arith)) here in
+    let other = none 0 (omega arith) in (
+      ap (λ t. cond t [] (x ∷ before b xs)) other ∙ ap (λ k. x ∷ k) later.0,
+      ap (λ t. cond t (Some xs) (behind b xs)) other ∙ later.1,
     )
 
 -- b stands nowhere
-pub cut_nowhere : (b : ℕ) (text : List ℕ) (i : ℕ) → length text ≤ i → Unseen b text i → (before b text ≡ text) × (behind b text ≡ None)
-cut_nowhere b text i h u = (
-  u.front ∙ ap (λ l. take i text ++ l) (at_drop_all (before b) text i h) ∙ append-nil (take i text) ∙ take_all i text h,
-  u.back ∙ at_drop_all (behind b) text i h,
-)
+pub cut_nowhere : (b : ℕ) (text : List ℕ) → ((k : ℕ) → k < length text → eqb (get_or text k 0) b ≡ false) → (before b text ≡ text) × (behind b text ≡ None)
+cut_nowhere b [] none = (refl, refl)
+cut_nowhere b (x ∷ xs) none =
+    let later = cut_nowhere b xs (λ k l. none (suc k) (omega arith)) in
+    let other = none 0 (omega arith) in (
+      ap (λ t. cond t [] (x ∷ before b xs)) other ∙ ap (λ k. x ∷ k) later.0,
+      ap (λ t. cond t (Some xs) (behind b xs)) other ∙ later.1,
+    )
 
 -- what stands behind a byte is shorter than the whole
 pub behind_shorter : (b x : ℕ) (xs : List ℕ) → length (unwrap_or (behind b (x ∷ xs)) []) < length (x ∷ xs)
@@ -53,11 +36,6 @@ behind_shorter b x (y ∷ ys) =
 pub later_shorter : (b : ℕ) (bs : List ℕ) → 0 < length bs → length (unwrap_or (behind b bs) []) < length bs
 later_shorter b [] h = absurd (omega arith)
 later_shorter b (x ∷ xs) h = behind_shorter b x xs
-
--- what a found rest holds, or nothing where there is none
-pub value_held : (o : Option (Bor (List ℕ))) (none : Bor (List ℕ)) → none.now ≡ [] → (unwrap_or o none).now ≡ unwrap_or (option_map (λ (r : Bor (List ℕ)). r.now) o) []
-value_held None none e = e
-value_held (Some r) none e = refl
 
 parts_cons : (b x : ℕ) (text front : List ℕ) (rest : Option (List ℕ)) → (x ≡ b → ⊥) → Parts b text front rest → Parts b (x ∷ text) (x ∷ front) rest
 parts_cons b x text front None n p = (ap (λ l. x ∷ l) p.0, (n, p.1))

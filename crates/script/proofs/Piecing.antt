@@ -4,7 +4,7 @@ use Rattle.std.specs.List.{flat_map}
 use Rattle.std.proofs.lemmas.Bool.{cases_eq, cond-false}
 use Rattle.script.specs.declared.escapes.Place.{Place}
 use Rattle.script.specs.declared.escapes.Place.TheVariants.{Outside, Slash, Digits, Digit}
-use Rattle.script.specs.declared.escapes.Step.TheVariants.{Byte, On, Stray}
+use Rattle.script.specs.declared.escapes.Step.TheVariants.{Byte, On}
 use Rattle.script.specs.Cuts.{behind}
 use Rattle.script.specs.Escapes.{hex_digit, escape_letter, first_digit, second_digit, led, onward, unescaped_from, unescaped}
 use Rattle.script.specs.Pieces.{Piece, itself, line_feed, carriage_return, tab, backslash, digits, written, two_digits, byte_of, with_byte, bytes_of, StandsFor, ReadByPieces, AnyBytes}
@@ -18,7 +18,7 @@ by_test : (x b : ℕ) (t : List ℕ) (test : Bool) → eqb x 92 ≡ test → con
 by_test x b t true h e = none_is_some e
 by_test x b t false h e =
     let same : x ≡ b = cc in
-    ap (λ s. onward (cond s (On Slash) (Byte x)) (λ q. unescaped_from q t)) h ∙ ap (λ v. led (v ∷ []) (unescaped t)) same
+    ap (λ s. onward (cond s (Some (On Slash)) (Some (Byte x))) (λ q. unescaped_from q t)) h ∙ ap (λ v. led (v ∷ []) (unescaped t)) same
 
 by_digits : (h l b : ℕ) (t : List ℕ) (m n : Option ℕ) → hex_digit h ≡ m → hex_digit l ≡ n → two_digits m n ≡ Some b → unescaped (92 ∷ 120 ∷ h ∷ l ∷ t) ≡ led (b ∷ []) (unescaped t)
 by_digits h l b t None n p q e = none_is_some e
@@ -71,12 +71,12 @@ with_rest : (p : Piece) (b : ℕ) (t : List ℕ) (o : Option (List ℕ)) (bs : L
 with_rest p b t None bs h r k e = none_is_some e
 with_rest p b t (Some cs) bs h r k e = let same : b ∷ cs ≡ bs = cc in subst (StandsFor (written p ++ t)) same (stands_cons p b h (r cs k))
 
-outside_test : (b : ℕ) (t bs : List ℕ) (test : Bool) → eqb b 92 ≡ test → ReadsOn Outside [] t → ReadsOn Slash (92 ∷ []) t → onward (cond test (On Slash) (Byte b)) (λ q. unescaped_from q t) ≡ Some bs → StandsFor (b ∷ t) bs
+outside_test : (b : ℕ) (t bs : List ℕ) (test : Bool) → eqb b 92 ≡ test → ReadsOn Outside [] t → ReadsOn Slash (92 ∷ []) t → onward (cond test (Some (On Slash)) (Some (Byte b))) (λ q. unescaped_from q t) ≡ Some bs → StandsFor (b ∷ t) bs
 outside_test b t bs true h o s e = subst (λ c. StandsFor (c ∷ t) bs) (sym (eqb-true b 92 h)) (s bs e)
 outside_test b t bs false h o s e = with_rest (itself b) b t (unescaped t) bs (ap (λ x. cond x None (Some b)) h) o refl e
 
 -- a letter that names a byte
-at_letter : (p : Piece) (b c : ℕ) (t : List ℕ) → byte_of p ≡ Some b → written p ≡ 92 ∷ c ∷ [] → escape_letter c ≡ Byte b → ReadsOn Outside [] t → ReadsOn Slash (92 ∷ []) (c ∷ t)
+at_letter : (p : Piece) (b c : ℕ) (t : List ℕ) → byte_of p ≡ Some b → written p ≡ 92 ∷ c ∷ [] → escape_letter c ≡ Some (Byte b) → ReadsOn Outside [] t → ReadsOn Slash (92 ∷ []) (c ∷ t)
 at_letter p b c t h w k o bs e =
     subst (λ l. StandsFor (l ++ t) bs) w (with_rest p b t (unescaped t) bs h o refl (ap (λ s. onward s (λ q. unescaped_from q t)) (sym k) ∙ e))
 
@@ -90,7 +90,7 @@ slash_step c t o d =
     (λ k. ⊎_elim (λ e. from 92 e (at_letter backslash 92 92 t refl refl refl o))
     (λ s. ⊎_elim (λ e. from 120 e d)
     (λ x.
-    let stray : escape_letter c ≡ Stray = cond-false _ _ _ (ne_eqb c 110 n) ∙ cond-false _ _ _ (ne_eqb c 114 r) ∙ cond-false _ _ _ (ne_eqb c 116 k) ∙ cond-false _ _ _ (ne_eqb c 92 s) ∙ cond-false _ _ _ (ne_eqb c 120 x) in
+    let stray : escape_letter c ≡ None = cond-false _ _ _ (ne_eqb c 110 n) ∙ cond-false _ _ _ (ne_eqb c 114 r) ∙ cond-false _ _ _ (ne_eqb c 116 k) ∙ cond-false _ _ _ (ne_eqb c 92 s) ∙ cond-false _ _ _ (ne_eqb c 120 x) in
     λ bs e. none_is_some (ap (λ s. onward s (λ q. unescaped_from q t)) (sym stray) ∙ e))
     (cases_eq c 120)) (cases_eq c 92)) (cases_eq c 116)) (cases_eq c 114)) (cases_eq c 110)
 

@@ -4,7 +4,7 @@ use Rattle.std.proofs.lemmas.List.{at_drop_more, at_drop_all}
 use Rattle.script.specs.declared.escapes.Place.{Place}
 use Rattle.script.specs.declared.escapes.Place.TheVariants.{Outside, Slash, Digits, Digit}
 use Rattle.script.specs.declared.escapes.Step.{Step}
-use Rattle.script.specs.declared.escapes.Step.TheVariants.{Byte, On, Stray}
+use Rattle.script.specs.declared.escapes.Step.TheVariants.{Byte, On}
 use Rattle.script.specs.Escapes.{escape_step, led, ended, onward, unescaped_from, unescaped, Sound}
 
 -- `bytes` came from the first i bytes of the text, which end at the place p
@@ -28,21 +28,21 @@ pub reached_as : {text : List ℕ} {i : ℕ} {p q : Place} {bytes more : List �
 reached_as {text} {i} {p} {q} {bytes} {more} r e f = subst (λ (k : Place). Reached text i k more) (sym e) (subst (Reached text i p) (sym f) r)
 
 -- what is left at i, by the step that the byte there makes
-at_step : (text : List ℕ) (i : ℕ) (p : Place) (s : Step) → i < length text → s ≡ escape_step p (get_or text i 0) → unescaped_from p (drop i text) ≡ onward s (λ q. unescaped_from q (drop (i + 1) text))
+at_step : (text : List ℕ) (i : ℕ) (p : Place) (s : Option Step) → i < length text → s ≡ escape_step p (get_or text i 0) → unescaped_from p (drop i text) ≡ onward s (λ q. unescaped_from q (drop (i + 1) text))
 at_step text i p s h e = at_drop_more (unescaped_from p) text i 0 h ∙ ap (λ t. onward t (λ q. unescaped_from q (drop (i + 1) text))) (sym e)
 
 -- a byte of the argument
-pub reached_byte : (text : List ℕ) (i : ℕ) (p : Place) (bytes : List ℕ) (v : ℕ) → i < length text → Byte v ≡ escape_step p (get_or text i 0) → Reached text i p bytes → Reached text (i + 1) Outside (bytes ++ v ∷ [])
+pub reached_byte : (text : List ℕ) (i : ℕ) (p : Place) (bytes : List ℕ) (v : ℕ) → i < length text → Some (Byte v) ≡ escape_step p (get_or text i 0) → Reached text i p bytes → Reached text (i + 1) Outside (bytes ++ v ∷ [])
 reached_byte text i p bytes v h e r =
-    record { sound = tt; whole = sym (led_more bytes v (unescaped_from Outside (drop (i + 1) text))) ∙ ap (led bytes) (sym (at_step text i p (Byte v) h e)) ∙ r.whole }
+    record { sound = tt; whole = sym (led_more bytes v (unescaped_from Outside (drop (i + 1) text))) ∙ ap (led bytes) (sym (at_step text i p (Some (Byte v)) h e)) ∙ r.whole }
 
 -- a place within an escape
-pub reached_place : (text : List ℕ) (i : ℕ) (p q : Place) (bytes : List ℕ) → i < length text → On q ≡ escape_step p (get_or text i 0) → Sound q → Reached text i p bytes → Reached text (i + 1) q bytes
-reached_place text i p q bytes h e s r = record { sound = s; whole = ap (led bytes) (sym (at_step text i p (On q) h e)) ∙ r.whole }
+pub reached_place : (text : List ℕ) (i : ℕ) (p q : Place) (bytes : List ℕ) → i < length text → Some (On q) ≡ escape_step p (get_or text i 0) → Sound q → Reached text i p bytes → Reached text (i + 1) q bytes
+reached_place text i p q bytes h e s r = record { sound = s; whole = ap (led bytes) (sym (at_step text i p (Some (On q)) h e)) ∙ r.whole }
 
 -- an error
-pub stuck : (text : List ℕ) (i : ℕ) (p : Place) (bytes : List ℕ) → i < length text → Stray ≡ escape_step p (get_or text i 0) → Reached text i p bytes → unescaped text ≡ None
-stuck text i p bytes h e r = sym r.whole ∙ ap (led bytes) (at_step text i p Stray h e)
+pub stuck : (text : List ℕ) (i : ℕ) (p : Place) (bytes : List ℕ) → i < length text → None ≡ escape_step p (get_or text i 0) → Reached text i p bytes → unescaped text ≡ None
+stuck text i p bytes h e r = sym r.whole ∙ ap (led bytes) (at_step text i p None h e)
 
 -- the end of the text
 pub at_end : (text : List ℕ) (i : ℕ) (p : Place) (bytes : List ℕ) → length text ≤ i → Reached text i p bytes → unescaped text ≡ led bytes (ended p)

@@ -1,36 +1,24 @@
--- Where each word stands in the table of all words, and that its spelling tells it.
-use Rattle.std.proofs.Common.{◌≡◌, ℕ, ◌<◌, cond, List, [], ◌∷◌, get_or, Some, None, Option, sym, refl, ap, ◌∙◌, lit<}
+-- Looking a word up in the table of all words: its spelling tells it.
+use Rattle.std.proofs.Common.{◌≡◌, ℕ, Bool, true, List, [], ◌∷◌, Some, None, Option, sym, refl, ap, ◌∙◌, arith}
+use Rattle.std.specs.List.{find}
+use Rattle.std.specs.Option.{option_map}
 use Rattle.std.specs.Str.{bytes_eq}
+use Rattle.std.proofs.lemmas.Option.{none-some}
+use Rattle.std.proofs.lemmas.Slice.Eq.{bytes_eq-Decides}
 use Rattle.script.specs.declared.words.Word.{Word}
 use Rattle.script.specs.declared.words.Word.TheVariants.{New, Style, Memory, Sink, Level, Open, Field, Text, Nothing, Variant, Wrapped, Row, VariantRow, Record, VariantRecord, End, Finish, Abandon}
-use Rattle.script.specs.Words.{words, spelling, ToldApart}
+use Rattle.script.specs.Words.{words, spelling, Names, ToldApart}
 
-pub placed : (w : Word) → (k : ℕ) × (k < 18) × (get_or words k New ≡ w)
-placed New = (0, lit< tt, refl)
-placed Style = (1, lit< tt, refl)
-placed Memory = (2, lit< tt, refl)
-placed Sink = (3, lit< tt, refl)
-placed Level = (4, lit< tt, refl)
-placed Open = (5, lit< tt, refl)
-placed Field = (6, lit< tt, refl)
-placed Text = (7, lit< tt, refl)
-placed Nothing = (8, lit< tt, refl)
-placed Variant = (9, lit< tt, refl)
-placed Wrapped = (10, lit< tt, refl)
-placed Row = (11, lit< tt, refl)
-placed VariantRow = (12, lit< tt, refl)
-placed Record = (13, lit< tt, refl)
-placed VariantRecord = (14, lit< tt, refl)
-placed End = (15, lit< tt, refl)
-placed Finish = (16, lit< tt, refl)
-placed Abandon = (17, lit< tt, refl)
+-- a word that is found is one that passes
+found_passes : (test : Word → Bool) (ws : List Word) (w : Word) → find test ws ≡ Some w → test w ≡ true
+found_passes test [] w e = absurd (none-some w e)
+found_passes test (v ∷ ws) w e = grind (arith, found_passes test ws w)
 
--- the first of some words that is written like this
-abbrev among : List Word → List ℕ → Option Word
-among [] bs = None
-among (w ∷ ws) bs = cond (bytes_eq bs (spelling w)) (Some w) (among ws bs)
+-- the first word of the table that is written like this
+abbrev pub among : List ℕ → Option Word
+among bs = find (λ w. bytes_eq bs (spelling w)) words
 
-told : (w : Word) → among words (spelling w) ≡ Some w
+told : (w : Word) → among (spelling w) ≡ Some w
 told New = refl
 told Style = refl
 told Memory = refl
@@ -51,4 +39,9 @@ told Finish = refl
 told Abandon = refl
 
 pub told_apart : ToldApart
-told_apart v w e = let same : Some v ≡ Some w = sym (told v) ∙ ap (among words) e ∙ told w in cc
+told_apart v w e = let same : Some v ≡ Some w = sym (told v) ∙ ap among e ∙ told w in cc
+
+-- what the search of the table says
+pub names : (r : Option Word) (bs : List ℕ) → option_map (λ w. w) r ≡ among bs → Names r bs
+names None bs e = λ w is. none-some w (e ∙ ap among is ∙ told w)
+names (Some w) bs e = (bytes_eq-Decides bs (spelling w)).0 (found_passes (λ v. bytes_eq bs (spelling v)) words w (sym e))

@@ -3,7 +3,7 @@ use Rattle.std.specs.Prelude.{ℕ, ◌+◌, ◌-◌, ◌*◌, ◌<◌, cond, ◌
 use Rattle.script.specs.declared.escapes.Place.{Place}
 use Rattle.script.specs.declared.escapes.Place.TheVariants.{Outside, Slash, Digits, Digit}
 use Rattle.script.specs.declared.escapes.Step.{Step}
-use Rattle.script.specs.declared.escapes.Step.TheVariants.{Byte, On, Stray}
+use Rattle.script.specs.declared.escapes.Step.TheVariants.{Byte, On}
 
 -- the value of a hexadecimal digit, in either case
 abbrev pub hex_digit : ℕ → Option ℕ
@@ -11,21 +11,21 @@ hex_digit c =
     cond (nat_le 48 c && nat_le c 57) (Some (c - 48)) (cond (nat_le 97 c && nat_le c 102) (Some (c - 87)) (cond (nat_le 65 c && nat_le c 70) (Some (c - 55)) None))
 
 -- behind a backslash: n is line feed, r carriage return, t tab, a backslash itself, and x begins two digits
-abbrev pub escape_letter : ℕ → Step
+abbrev pub escape_letter : ℕ → Option Step
 escape_letter c =
-    cond (c == 110) (Byte 10) (cond (c == 114) (Byte 13) (cond (c == 116) (Byte 9) (cond (c == 92) (Byte 92) (cond (c == 120) (On Digits) Stray))))
+    cond (c == 110) (Some (Byte 10)) (cond (c == 114) (Some (Byte 13)) (cond (c == 116) (Some (Byte 9)) (cond (c == 92) (Some (Byte 92)) (cond (c == 120) (Some (On Digits)) None))))
 
-abbrev pub first_digit : Option ℕ → Step
-first_digit None = Stray
-first_digit (Some high) = On (Digit high)
+abbrev pub first_digit : Option ℕ → Option Step
+first_digit None = None
+first_digit (Some high) = Some (On (Digit high))
 
-abbrev pub second_digit : ℕ → Option ℕ → Step
-second_digit high None = Stray
-second_digit high (Some low) = Byte (high * 16 + low)
+abbrev pub second_digit : ℕ → Option ℕ → Option Step
+second_digit high None = None
+second_digit high (Some low) = Some (Byte (high * 16 + low))
 
--- what one more byte gives at a place: a byte of the argument, or a place within an escape, or an error
-abbrev pub escape_step : Place → ℕ → Step
-escape_step Outside c = cond (c == 92) (On Slash) (Byte c)
+-- what one more byte gives at a place: a byte of the argument, or a place within an escape, or nothing where no escape goes on like this
+abbrev pub escape_step : Place → ℕ → Option Step
+escape_step Outside c = cond (c == 92) (Some (On Slash)) (Some (Byte c))
 escape_step Slash c = escape_letter c
 escape_step Digits c = first_digit (hex_digit c)
 escape_step (Digit high) c = second_digit high (hex_digit c)
@@ -43,10 +43,10 @@ ended Digits = None
 ended (Digit high) = None
 
 -- a step, and what follows it from the place that it leads to
-abbrev pub onward : Step → (Place → Option (List ℕ)) → Option (List ℕ)
-onward (Byte v) later = led (v ∷ []) (later Outside)
-onward (On p) later = later p
-onward Stray later = None
+abbrev pub onward : Option Step → (Place → Option (List ℕ)) → Option (List ℕ)
+onward (Some (Byte v)) later = led (v ∷ []) (later Outside)
+onward (Some (On p)) later = later p
+onward None later = None
 
 -- what the rest of an argument stands for, from a place on
 abbrev pub unescaped_from : Place → List ℕ → Option (List ℕ)
@@ -65,7 +65,7 @@ Sound Digits = Unit {0}
 Sound (Digit high) = high < 16
 
 -- the place that a step leads to is sound
-abbrev pub LeadsSoundly : Step → Type 0
-LeadsSoundly (Byte v) = Unit {0}
-LeadsSoundly (On p) = Sound p
-LeadsSoundly Stray = Unit {0}
+abbrev pub LeadsSoundly : Option Step → Type 0
+LeadsSoundly (Some (Byte v)) = Unit {0}
+LeadsSoundly (Some (On p)) = Sound p
+LeadsSoundly None = Unit {0}

@@ -1,5 +1,5 @@
 -- What the arguments of the set-up words say; their parts stand one space apart. Assumes nothing.
-use Rattle.std.specs.Prelude.{◌≡◌, ℕ, ◌-◌, ◌^◌, cond, List, [], Some, None, Ok, Err, codes, Option, Result}
+use Rattle.std.specs.Prelude.{◌≡◌, ℕ, ◌-◌, ◌^◌, cond, List, [], ◌∷◌, Some, None, Ok, Err, codes, Option, Result}
 use Rattle.std.specs.Option.{unwrap_or}
 use Rattle.std.specs.Str.{bytes_eq}
 use Rattle.style.specs.declared.style.EmptyElementHandling.{EmptyElementHandling}
@@ -34,13 +34,17 @@ parts_left bs = unwrap_or (behind 32 bs) []
 abbrev pub largest : ℕ
 largest = 2 ^ 64 - 1
 
+-- the first of these settings that is written like this
+abbrev pub one_of : {A : Type 0} → List ℕ → List (List ℕ × A) → Result A Fault
+one_of bs [] = Err BadSetting
+one_of bs (s ∷ more) = cond (bytes_eq bs s.0) (Ok s.1) (one_of bs more)
+
 abbrev pub form_of : List ℕ → Result EmptyElementHandling Fault
 form_of bs =
-    cond (bytes_eq bs (codes "self-closed")) (Ok SelfClosed) (cond (bytes_eq bs (codes "self-closed-with-space")) (Ok SelfClosedWithSpace) (cond (bytes_eq bs (codes "expanded")) (Ok Expanded) (Err BadSetting)))
+    one_of bs ((codes "self-closed", SelfClosed) ∷ (codes "self-closed-with-space", SelfClosedWithSpace) ∷ (codes "expanded", Expanded) ∷ [])
 
 abbrev pub level_of : List ℕ → Result QuoteLevel Fault
-level_of bs =
-    cond (bytes_eq bs (codes "full")) (Ok Full) (cond (bytes_eq bs (codes "partial")) (Ok Partial) (cond (bytes_eq bs (codes "minimal")) (Ok Minimal) (Err BadSetting)))
+level_of bs = one_of bs ((codes "full", Full) ∷ (codes "partial", Partial) ∷ (codes "minimal", Minimal) ∷ [])
 
 -- BYTE SIZE
 abbrev pub indentation_of : List ℕ → Result Indentation Fault

@@ -30,7 +30,7 @@ impl Fault {
     pub fn message(&self) -> &'static str
         ensures value { result.now ≡ message self.now }
     {
-        match self {
+        match *self {
             Fault::UnknownWord => "unknown word",
             Fault::UnwantedArgument => "this word takes no argument, not even a space",
             Fault::BadEscape => "a backslash begins no escape",
@@ -58,6 +58,14 @@ impl<T: Drop> From<AllocFailed<T>> for Fault {
     }
 }
 
+impl fmt::Display for Fault {
+    ghost output = { λ e. Some (message e) };
+
+    fn fmt<W: fmt::Write>(&self, f: &mut fmt::Formatter<W>) -> fmt::Result {
+        f.write_str(self.message())
+    }
+}
+
 /// A fault with the number of its line, counted from 1.
 #[derive(Clone, Copy, PartialEq, Eq, Debug)]
 pub struct ScriptError {
@@ -70,8 +78,6 @@ impl fmt::Display for ScriptError {
     ghost output = { λ e. Some (told e.line e.fault) };
 
     fn fmt<W: fmt::Write>(&self, f: &mut fmt::Formatter<W>) -> fmt::Result {
-        let line = self.line;
-        let message = self.fault.message();
-        write!(f, "line {line}: {message}")
+        write!(f, "line {}: {}", self.line, self.fault)
     }
 }

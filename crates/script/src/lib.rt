@@ -8,7 +8,6 @@ mod line;
 mod numbers;
 mod order;
 mod reader;
-mod same;
 mod settings;
 mod words;
 

@@ -18,7 +18,7 @@ use std::alloc::Global;
 use xml::QuoteLevel;
 
 /// A line, its argument with the escapes read.
-#[derive(Drop)]
+#[derive(PartialEq, Eq, Debug, Drop)]
 pub enum Line {
     /// an empty line or a comment
     Blank,
@@ -44,7 +44,7 @@ pub enum Line {
 }
 
 /// A line with its number, counted from 1.
-#[derive(Drop)]
+#[derive(PartialEq, Eq, Debug, Drop)]
 pub struct Numbered {
     pub number: usize,
     pub line: Line,
@@ -67,10 +67,7 @@ impl Line {
 fn is_blank(line: &[u8]) -> bool
     ensures value { result ≡ blank line.now }
 {
-    match line {
-        [] => true,
-        [first, ..] => *first == b'#',
-    }
+    matches!(line, [] | [b'#', ..])
 }
 
 // What a word says with its argument, which is empty for a word that takes none.
@@ -105,13 +102,8 @@ fn argument_text(word: Word, rest: Option<&[u8]>) -> Result<&[u8], Fault>
 {
     match rest {
         None => Ok(b""),
-        Some(text) => {
-            if word.takes_argument() {
-                Ok(text)
-            } else {
-                Err(Fault::UnwantedArgument)
-            }
-        }
+        Some(text) if word.takes_argument() => Ok(text),
+        Some(_) => Err(Fault::UnwantedArgument),
     }
 }
 
@@ -123,9 +115,7 @@ pub fn read_line(heap: Global, line: &[u8]) -> Result<Line, Fault>
         return Ok(Line::Blank);
     }
     let (text, rest) = cut(b' ', line);
-    let Some(word) = Word::find(text) else {
-        return Err(Fault::UnknownWord);
-    };
+    let word = Word::find(text).ok_or(Fault::UnknownWord)?;
     let written = argument_text(word, rest)?;
     let argument = unescape(heap, written)?;
     line_of(word, argument)

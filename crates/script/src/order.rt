@@ -5,7 +5,7 @@ ghost use Rattle.script.specs.Order.{follows, SetUpFirst};
 use crate::fault::Fault;
 
 /// What a line does to the order.
-#[derive(Clone, Copy)]
+#[derive(Clone, Copy, PartialEq, Eq, Debug)]
 pub enum Role {
     /// It begins a new writer.
     Starts,
@@ -18,7 +18,7 @@ pub enum Role {
 }
 
 /// How far the writer has come.
-#[derive(Clone, Copy)]
+#[derive(Clone, Copy, PartialEq, Eq, Debug)]
 pub enum Phase {
     /// no call yet
     SettingUp,
@@ -40,8 +40,6 @@ impl Phase {
 }
 
 /// A script is stopped for its order exactly where a set-up word stands behind a call of the same writer.
-pub fn law_set_up_first() -> u8
+pub fn law_set_up_first()
     ensures law { SetUpFirst }
-{
-    0
-}
+{}

@@ -6,7 +6,7 @@ ghost use Rattle.script.specs.Order.{role, follows};
 ghost use Rattle.script.specs.Script.{Stops, Reader, Next};
 ghost use Rattle.script.specs.declared.order.Phase.TheVariants.{SettingUp};
 
-use crate::cuts::cut;
+use crate::cuts::part;
 use crate::fault::{Fault, ScriptError};
 use crate::line::{Line, Numbered, read_line};
 use crate::order::Phase;
@@ -18,8 +18,7 @@ pub fn split_line(script: &[u8]) -> (&[u8], &[u8])
     ensures rest { result.1.now ≡ later_lines script.now }
     ensures len { 0 < length script.now → length result.1.now < length script.now }
 {
-    let (line, rest) = cut(b'\n', script);
-    (line, rest.unwrap_or(b""))
+    part(b'\n', script)
 }
 
 /// What a line says in a phase of the writer, and the phase after it.
@@ -65,15 +64,12 @@ impl<'s> Script<'s> {
         self.rest = rest;
         self.read += 1;
         let number = self.read;
-        match read_in_phase(heap, self.phase, text) {
-            Ok((line, phase)) => {
-                self.phase = phase;
-                Ok(Some(Numbered { number, line }))
-            }
-            Err(fault) => Err(ScriptError {
-                line: number,
-                fault,
-            }),
-        }
+        let at_line = |fault| ScriptError {
+            line: number,
+            fault,
+        };
+        let (line, phase) = read_in_phase(heap, self.phase, text).map_err(at_line)?;
+        self.phase = phase;
+        Ok(Some(Numbered { number, line }))
     }
 }

@@ -1,23 +1,22 @@
 // The arguments of the set-up words.
-ghost use Rattle.std.specs.Prelude.{◌≡◌};
-ghost use Rattle.script.specs.Settings.{form_of, level_of, indentation_of, layout_of, sizes_of, sink_of};
+ghost use Rattle.std.specs.Prelude.{◌≡◌, map};
+ghost use Rattle.script.specs.Settings.{one_of, form_of, level_of, indentation_of, layout_of, sizes_of, sink_of};
 
-use crate::cuts::cut;
+use crate::cuts::{cut, part};
 use crate::fault::Fault;
 use crate::numbers::number;
-use crate::same::same_bytes;
 use style::{EmptyElementHandling, Indentation};
 use xml::QuoteLevel;
 
 /// What `style` says. No style is made of it here, so it may yet be refused.
-#[derive(Clone, Copy)]
+#[derive(Clone, Copy, PartialEq, Eq, Debug)]
 pub struct Layout {
     pub empty_elements: EmptyElementHandling,
     pub indentation: Option<Indentation>,
 }
 
 /// What `memory` says: how many bytes, bytes and frames the writer is lent.
-#[derive(Clone, Copy)]
+#[derive(Clone, Copy, PartialEq, Eq, Debug)]
 pub struct Sizes {
     pub stage: usize,
     pub names: usize,
@@ -25,48 +24,58 @@ pub struct Sizes {
 }
 
 /// What `sink` says.
-#[derive(Clone, Copy)]
+#[derive(Clone, Copy, PartialEq, Eq, Debug)]
 pub enum SinkChoice {
     /// a buffer of so many bytes
     Buffer(usize),
     Pages,
 }
 
+const FORMS: [(&[u8], EmptyElementHandling); 3] = [
+    (b"self-closed", EmptyElementHandling::SelfClosed),
+    (
+        b"self-closed-with-space",
+        EmptyElementHandling::SelfClosedWithSpace,
+    ),
+    (b"expanded", EmptyElementHandling::Expanded),
+];
+
+const LEVELS: [(&[u8], QuoteLevel); 3] = [
+    (b"full", QuoteLevel::Full),
+    (b"partial", QuoteLevel::Partial),
+    (b"minimal", QuoteLevel::Minimal),
+];
+
+// The setting that is written like this.
+fn one_of<T: Copy>(text: &[u8], settings: &[(&[u8], T)]) -> Result<T, Fault>
+    ensures value { result ≡ one_of text.now (map (λ s. (s.0.now, s.1)) settings.now) }
+{
+    settings
+        .iter()
+        .find(|setting| text == setting.0)
+        .map(|setting| setting.1)
+        .ok_or(Fault::BadSetting)
+}
+
 fn form_of(text: &[u8]) -> Result<EmptyElementHandling, Fault>
     ensures value { result ≡ form_of text.now }
 {
-    if same_bytes(text, b"self-closed") {
-        Ok(EmptyElementHandling::SelfClosed)
-    } else if same_bytes(text, b"self-closed-with-space") {
-        Ok(EmptyElementHandling::SelfClosedWithSpace)
-    } else if same_bytes(text, b"expanded") {
-        Ok(EmptyElementHandling::Expanded)
-    } else {
-        Err(Fault::BadSetting)
-    }
+    one_of(text, &FORMS)
 }
 
 /// `LEVEL`
 pub fn level_of(text: &[u8]) -> Result<QuoteLevel, Fault>
     ensures value { result ≡ level_of text.now }
 {
-    if same_bytes(text, b"full") {
-        Ok(QuoteLevel::Full)
-    } else if same_bytes(text, b"partial") {
-        Ok(QuoteLevel::Partial)
-    } else if same_bytes(text, b"minimal") {
-        Ok(QuoteLevel::Minimal)
-    } else {
-        Err(Fault::BadSetting)
-    }
+    one_of(text, &LEVELS)
 }
 
 fn indentation_of(text: &[u8]) -> Result<Indentation, Fault>
     ensures value { result ≡ indentation_of text.now }
 {
-    let (byte, size) = cut(b' ', text);
+    let (byte, size) = part(b' ', text);
     let byte = number(byte, 255)? as u8;
-    let size = number(size.unwrap_or(b""), 65535)?;
+    let size = number(size, 65535)?;
     Ok(Indentation { byte, size })
 }
 
@@ -76,10 +85,7 @@ pub fn layout_of(text: &[u8]) -> Result<Layout, Fault>
 {
     let (form, indent) = cut(b' ', text);
     let empty_elements = form_of(form)?;
-    let indentation = match indent {
-        None => None,
-        Some(indent) => Some(indentation_of(indent)?),
-    };
+    let indentation = indent.map(indentation_of).transpose()?;
     Ok(Layout {
         empty_elements,
         indentation,
@@ -90,15 +96,12 @@ pub fn layout_of(text: &[u8]) -> Result<Layout, Fault>
 pub fn sizes_of(text: &[u8]) -> Result<Sizes, Fault>
     ensures value { result ≡ sizes_of text.now }
 {
-    let (stage, rest) = cut(b' ', text);
-    let stage = number(stage, usize::MAX)?;
-    let (names, frames) = cut(b' ', rest.unwrap_or(b""));
-    let names = number(names, usize::MAX)?;
-    let frames = number(frames.unwrap_or(b""), usize::MAX)?;
+    let (stage, rest) = part(b' ', text);
+    let (names, frames) = part(b' ', rest);
     Ok(Sizes {
-        stage,
-        names,
-        frames,
+        stage: number(stage, usize::MAX)?,
+        names: number(names, usize::MAX)?,
+        frames: number(frames, usize::MAX)?,
     })
 }
 
@@ -106,13 +109,12 @@ pub fn sizes_of(text: &[u8]) -> Result<Sizes, Fault>
 pub fn sink_of(text: &[u8]) -> Result<SinkChoice, Fault>
     ensures value { result ≡ sink_of text.now }
 {
-    if same_bytes(text, b"pages") {
+    if text == b"pages".as_slice() {
         return Ok(SinkChoice::Pages);
     }
-    let (kind, size) = cut(b' ', text);
-    if !same_bytes(kind, b"buffer") {
+    let (kind, size) = part(b' ', text);
+    if kind != b"buffer".as_slice() {
         return Err(Fault::BadSetting);
     }
-    let size = number(size.unwrap_or(b""), usize::MAX)?;
-    Ok(SinkChoice::Buffer(size))
+    Ok(SinkChoice::Buffer(number(size, usize::MAX)?))
 }

@@ -2,10 +2,8 @@
 ghost use Rattle.std.specs.Prelude.{◌≡◌};
 ghost use Rattle.script.specs.Words.{spelling, takes_argument, Names, ToldApart};
 
-use crate::same::same_bytes;
-
 /// A word of a script: five that set up, and thirteen calls.
-#[derive(Clone, Copy)]
+#[derive(Clone, Copy, PartialEq, Eq, Debug)]
 pub enum Word {
     New,
     Style,
@@ -90,18 +88,11 @@ impl Word {
     pub fn find(text: &[u8]) -> Option<Word>
         ensures names { Names result text.now }
     {
-        for word in WORDS {
-            if same_bytes(text, word.spelling()) {
-                return Some(word);
-            }
-        }
-        None
+        WORDS.into_iter().find(|word| text == word.spelling())
     }
 }
 
 /// No two words are written alike, so a line has one word at most.
-pub fn law_words_told_apart() -> u8
+pub fn law_words_told_apart()
     ensures law { ToldApart }
-{
-    0
-}
+{}

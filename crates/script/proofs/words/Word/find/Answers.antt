@@ -1,13 +1,16 @@
-use Rattle.std.proofs.Common.{sym, ap, ◌∙◌, arith, below_more}
-use borrow.Author.Tests.{both_ways}
+use Rattle.std.proofs.Common.{rules, tests, ap, ◌∙◌}
+use Rattle.std.specs.Array.Iter.{array_into_iter_items, array_steps}
+use Rattle.std.specs.List.{find}
+use Rattle.std.specs.Str.{bytes_eq}
+use Rattle.std.proofs.lemmas.Iterator.Search.{find_from_yields_List}
+use Rattle.std.proofs.lemmas.Iterator.Consumers.{YieldsList-from_shown}
 use Rattle.script.specs.Words.{spelling}
-use Rattle.script.proofs.Wording.{placed}
+use Rattle.script.proofs.Wording.{names}
 use Rattle.script.proofs.words.Word.find.Goals as goal
-
-pub loop-word-preserved : goal.loop-word-preserved
-loop-word-preserved c =
-    below_more _ _ c.loop-word.invariant (λ e. both_ways _ c.if-same_bytes.false (c.same_bytes.ensures.decides.1 (e ∙ sym c.spelling.ensures.value)))
 
 pub returns : goal.returns
 returns c =
-    record { names = λ w e. let at = placed w in c.loop-word.invariant at.0 (omega (arith, at.1)) (e ∙ ap spelling (sym at.2)) }
+    let text = c.args.text.now in
+    let table = YieldsList-from_shown array_steps (λ w. w) array_into_iter_items (λ s t h. h.0) (λ s w t h. h) c.into_iter.result in
+    let found = find_from_yields_List (λ w. bytes_eq text (spelling w)) _ _ c.find.result c.find.ensures.ran table (λ w b q k. search (rules, tests)) in
+    record { names = names _ text (found ∙ ap (find (λ w. bytes_eq text (spelling w))) c.into_iter.ensures.into_iter_gives.0) }
