@@ -1,41 +1,23 @@
 -- Where a text is cut: at a byte that is not in what stands before it.
 use Rattle.std.proofs.Common.{◌≡◌, ℕ, ◌+◌, ◌<◌, ◌≤◌, Bool, true, false, cond, eqb, List, [], ◌∷◌, ◌++◌, length, get_or, take, drop, zero, suc, Some, None, Option, unwrap_or, sym, refl, ap, ◌∙◌, append_assoc, append-nil, arith, Bor, eq-eqb, ne_eqb, eqb-true}
 use borrow.Author.Tests.{eqb-false}
-use Rattle.std.proofs.lemmas.List.{take_more, take_all, at_drop_more, at_drop_all}
+use Rattle.std.proofs.lemmas.List.{take-append-drop, drop_more}
+use Rattle.std.proofs.lemmas.Grind.{common_steps}
 use Rattle.std.specs.Option.{option_map}
 use Rattle.script.specs.Cuts.{before, behind, Lacks, Parts, CutAtTheFirst}
 
--- b stands at i, and nowhere before
-pub cut_here : (b : ℕ) (text : List ℕ) (i : ℕ) → i < length text → ((k : ℕ) → k < i → eqb (get_or text k 0) b ≡ false) → eqb (get_or text i 0) b ≡ true → (before b text ≡ take i text) × (behind b text ≡ Some (drop (suc i) text))
-cut_here b [] i h none here = absurd (omega arith)
-cut_here b (x ∷ xs) zero h none here = (ap (λ t. cond t [] (x ∷ before b xs)) here, ap (λ t. cond t (Some xs) (behind b xs)) here)
-cut_here b (x ∷ xs) (suc i) h none here =
-    let later = cut_here b xs i (omega arith) (λ k l. none (suc k) (omega arith)) here in
-    let other = none 0 (omega arith) in (
-      ap (λ t. cond t [] (x ∷ before b xs)) other ∙ ap (λ k. x ∷ k) later.0,
-      ap (λ t. cond t (Some xs) (behind b xs)) other ∙ later.1,
-    )
-
--- b stands nowhere
-pub cut_nowhere : (b : ℕ) (text : List ℕ) → ((k : ℕ) → k < length text → eqb (get_or text k 0) b ≡ false) → (before b text ≡ text) × (behind b text ≡ None)
-cut_nowhere b [] none = (refl, refl)
-cut_nowhere b (x ∷ xs) none =
-    let later = cut_nowhere b xs (λ k l. none (suc k) (omega arith)) in
-    let other = none 0 (omega arith) in (
-      ap (λ t. cond t [] (x ∷ before b xs)) other ∙ ap (λ k. x ∷ k) later.0,
-      ap (λ t. cond t (Some xs) (behind b xs)) other ∙ later.1,
-    )
-
--- what stands behind a byte is shorter than the whole
-pub behind_shorter : (b x : ℕ) (xs : List ℕ) → length (unwrap_or (behind b (x ∷ xs)) []) < length (x ∷ xs)
-behind_shorter b x [] = elim (eqb x b) as (λ t. length {A = ℕ} (unwrap_or (cond t (Some []) None) []) < 1) [ true ↦ omega arith | false ↦ omega arith ]
-behind_shorter b x (y ∷ ys) =
-    let later = behind_shorter b y ys in
-    elim (eqb x b) as (λ t. length (unwrap_or (cond t (Some (y ∷ ys)) (behind b (y ∷ ys))) []) < length (x ∷ y ∷ ys)) [ true ↦ omega arith | false ↦ omega (arith, later) ]
+-- what stands behind a byte is no longer than the whole
+behind_within : (b : ℕ) (bs : List ℕ) → length (unwrap_or (behind b bs) []) ≤ length bs
+behind_within b [] = omega arith
+behind_within b (x ∷ xs) =
+    let later = behind_within b xs in
+    elim (eqb x b) as (λ t. length (unwrap_or (cond t (Some xs) (behind b xs)) []) ≤ length (x ∷ xs)) [ true ↦ omega arith | false ↦ omega (arith, later) ]
 
 pub later_shorter : (b : ℕ) (bs : List ℕ) → 0 < length bs → length (unwrap_or (behind b bs) []) < length bs
 later_shorter b [] h = absurd (omega arith)
-later_shorter b (x ∷ xs) h = behind_shorter b x xs
+later_shorter b (x ∷ xs) h =
+    let later = behind_within b xs in
+    elim (eqb x b) as (λ t. length (unwrap_or (cond t (Some xs) (behind b xs)) []) < length (x ∷ xs)) [ true ↦ omega arith | false ↦ omega (arith, later) ]
 
 parts_cons : (b x : ℕ) (text front : List ℕ) (rest : Option (List ℕ)) → (x ≡ b → ⊥) → Parts b text front rest → Parts b (x ∷ text) (x ∷ front) rest
 parts_cons b x text front None n p = (ap (λ l. x ∷ l) p.0, (n, p.1))
@@ -73,3 +55,19 @@ only_parts b text front (Some rest) p =
 
 pub cut_at_the_first : CutAtTheFirst
 cut_at_the_first b text = (parts b text, only_parts b text)
+
+lacks : (b : ℕ) (xs : List ℕ) → ((k : ℕ) → k < length xs → eqb (get_or xs k 0) b ≡ false) → Lacks b xs
+lacks b [] none = tt
+lacks b (x ∷ xs) none = (eqb-false x b (none 0 (omega arith)), lacks b xs (λ k l. none (suc k) (omega arith)))
+
+-- b stands nowhere
+pub cut_nowhere : (b : ℕ) (text : List ℕ) → ((k : ℕ) → k < length text → eqb (get_or text k 0) b ≡ false) → (before b text ≡ text) × (behind b text ≡ None)
+cut_nowhere b text none = only_parts b text text None (refl, lacks b text none)
+
+-- b stands at i, and nowhere before
+pub cut_here : (b : ℕ) (text : List ℕ) (i : ℕ) → i < length text → ((k : ℕ) → k < i → eqb (get_or text k 0) b ≡ false) → eqb (get_or text i 0) b ≡ true → (before b text ≡ take i text) × (behind b text ≡ Some (drop (i + 1) text))
+cut_here b text i h none here =
+    let front = take i text in
+    let rest = drop (i + 1) text in
+    let whole : text ≡ front ++ b ∷ rest = sym (take-append-drop i text) ∙ ap (λ l. front ++ l) (drop_more text i 0 h ∙ ap (λ x. x ∷ rest) (eqb-true _ b here)) in
+    only_parts b text front (Some rest) (whole, lacks b front (λ k l. grind (arith, common_steps, none k)))

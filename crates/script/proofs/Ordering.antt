@@ -26,19 +26,16 @@ pending_any : (rs : List Role) → Pending rs ⊎ Late rs → Pending (Anywhere 
 pending_any rs (inl p) = inl (record { between = Anywhere ∷ p.between; rest = p.rest; is = ap (λ t. Anywhere ∷ t) p.is; same = p.same })
 pending_any rs (inr l) = inr (late_cons Anywhere rs l)
 
-fine_not : {p : Phase} → Ok p ≡ Err TooLate → ⊥
-fine_not {p} e = let z : ◌≡◌ {A = ℕ} 0 1 = cc in omega arith
-
 mutual
   stopped_setting : (rs : List Role) → after_all SettingUp rs ≡ Err TooLate → Late rs
-  stopped_setting [] e = absurd (fine_not e)
+  stopped_setting [] e = cc
   stopped_setting (Starts ∷ rs) e = late_cons Starts rs (stopped_setting rs e)
   stopped_setting (Sets ∷ rs) e = late_cons Sets rs (stopped_setting rs e)
   stopped_setting (Anywhere ∷ rs) e = late_cons Anywhere rs (stopped_setting rs e)
   stopped_setting (Calls ∷ rs) e = late_call rs (stopped_calling rs e)
 
   stopped_calling : (rs : List Role) → after_all Calling rs ≡ Err TooLate → Pending rs ⊎ Late rs
-  stopped_calling [] e = absurd (fine_not e)
+  stopped_calling [] e = cc
   stopped_calling (Starts ∷ rs) e = inr (late_cons Starts rs (stopped_setting rs e))
   stopped_calling (Sets ∷ rs) e = inl (record { between = []; rest = rs; is = refl; same = tt })
   stopped_calling (Anywhere ∷ rs) e = pending_any rs (stopped_calling rs e)

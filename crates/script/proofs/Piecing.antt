@@ -2,6 +2,7 @@
 use Rattle.std.proofs.Common.{◌≡◌, ℕ, ◌+◌, ◌*◌, Bool, true, false, cond, eqb, List, [], ◌∷◌, ◌++◌, Some, None, Option, sym, refl, ap, ◌∙◌, subst, ⊎_elim, arith, ne_eqb, eqb-true}
 use Rattle.std.specs.List.{flat_map}
 use Rattle.std.proofs.lemmas.Bool.{cases_eq, cond-false}
+use Rattle.std.proofs.lemmas.Option.{none-some}
 use Rattle.script.specs.declared.escapes.Place.{Place}
 use Rattle.script.specs.declared.escapes.Place.TheVariants.{Outside, Slash, Digits, Digit}
 use Rattle.script.specs.declared.escapes.Step.TheVariants.{Byte, On}
@@ -9,20 +10,17 @@ use Rattle.script.specs.Cuts.{behind}
 use Rattle.script.specs.Escapes.{hex_digit, escape_letter, first_digit, second_digit, led, onward, unescaped_from, unescaped}
 use Rattle.script.specs.Pieces.{Piece, itself, line_feed, carriage_return, tab, backslash, digits, written, two_digits, byte_of, with_byte, bytes_of, StandsFor, ReadByPieces, AnyBytes}
 
-none_is_some : {A B : Type 0} {x : A} → None ≡ Some x → B
-none_is_some {A} {B} {x} e = let z : ◌≡◌ {A = ℕ} 0 1 = cc in absurd (omega arith)
-
 -- the pieces in front of what is read
 
 by_test : (x b : ℕ) (t : List ℕ) (test : Bool) → eqb x 92 ≡ test → cond test None (Some x) ≡ Some b → unescaped (x ∷ t) ≡ led (b ∷ []) (unescaped t)
-by_test x b t true h e = none_is_some e
+by_test x b t true h e = absurd (none-some _ e)
 by_test x b t false h e =
     let same : x ≡ b = cc in
     ap (λ s. onward (cond s (Some (On Slash)) (Some (Byte x))) (λ q. unescaped_from q t)) h ∙ ap (λ v. led (v ∷ []) (unescaped t)) same
 
 by_digits : (h l b : ℕ) (t : List ℕ) (m n : Option ℕ) → hex_digit h ≡ m → hex_digit l ≡ n → two_digits m n ≡ Some b → unescaped (92 ∷ 120 ∷ h ∷ l ∷ t) ≡ led (b ∷ []) (unescaped t)
-by_digits h l b t None n p q e = none_is_some e
-by_digits h l b t (Some m) None p q e = none_is_some e
+by_digits h l b t None n p q e = absurd (none-some _ e)
+by_digits h l b t (Some m) None p q e = absurd (none-some _ e)
 by_digits h l b t (Some m) (Some n) p q e =
     let same : m * 16 + n ≡ b = cc in
     ap (λ o. onward (first_digit o) (λ k. unescaped_from k (l ∷ t))) p ∙ ap (λ o. onward (second_digit m o) (λ k. unescaped_from k t)) q ∙ ap (λ v. led (v ∷ []) (unescaped t)) same
@@ -37,7 +35,7 @@ piece_read backslash b t e = let same : 92 ≡ b = cc in ap (λ v. led (v ∷ []
 piece_read (digits h l) b t e = by_digits h l b t (hex_digit h) (hex_digit l) refl refl e
 
 more_read : (p : Piece) (t : List ℕ) (b : Option ℕ) (cs : Option (List ℕ)) (bs : List ℕ) → byte_of p ≡ b → unescaped t ≡ cs → with_byte b cs ≡ Some bs → unescaped (written p ++ t) ≡ Some bs
-more_read p t None cs bs h k e = none_is_some e
+more_read p t None cs bs h k e = absurd (none-some _ e)
 more_read p t (Some b) cs bs h k e = piece_read p b t h ∙ ap (led (b ∷ [])) k ∙ e
 
 none_with : (b : Option ℕ) → with_byte b None ≡ None
@@ -45,7 +43,7 @@ none_with None = refl
 none_with (Some b) = refl
 
 rest_read : (p : Piece) (t : List ℕ) (o : Option (List ℕ)) → ((cs : List ℕ) → o ≡ Some cs → unescaped t ≡ Some cs) → (bs : List ℕ) → with_byte (byte_of p) o ≡ Some bs → unescaped (written p ++ t) ≡ Some bs
-rest_read p t None r bs e = none_is_some (sym (none_with (byte_of p)) ∙ e)
+rest_read p t None r bs e = absurd (none-some _ (sym (none_with (byte_of p)) ∙ e))
 rest_read p t (Some cs) r bs e = more_read p t (byte_of p) (Some cs) bs refl (r cs refl) e
 
 -- pieces are read as their bytes
@@ -68,7 +66,7 @@ ReadsOn p front t = (bs : List ℕ) → unescaped_from p t ≡ Some bs → Stand
 
 -- one byte and the rest
 with_rest : (p : Piece) (b : ℕ) (t : List ℕ) (o : Option (List ℕ)) (bs : List ℕ) → byte_of p ≡ Some b → ReadsOn Outside [] t → unescaped t ≡ o → led (b ∷ []) o ≡ Some bs → StandsFor (written p ++ t) bs
-with_rest p b t None bs h r k e = none_is_some e
+with_rest p b t None bs h r k e = absurd (none-some _ e)
 with_rest p b t (Some cs) bs h r k e = let same : b ∷ cs ≡ bs = cc in subst (StandsFor (written p ++ t)) same (stands_cons p b h (r cs k))
 
 outside_test : (b : ℕ) (t bs : List ℕ) (test : Bool) → eqb b 92 ≡ test → ReadsOn Outside [] t → ReadsOn Slash (92 ∷ []) t → onward (cond test (Some (On Slash)) (Some (Byte b))) (λ q. unescaped_from q t) ≡ Some bs → StandsFor (b ∷ t) bs
@@ -91,15 +89,15 @@ slash_step c t o d =
     (λ s. ⊎_elim (λ e. from 120 e d)
     (λ x.
     let stray : escape_letter c ≡ None = cond-false _ _ _ (ne_eqb c 110 n) ∙ cond-false _ _ _ (ne_eqb c 114 r) ∙ cond-false _ _ _ (ne_eqb c 116 k) ∙ cond-false _ _ _ (ne_eqb c 92 s) ∙ cond-false _ _ _ (ne_eqb c 120 x) in
-    λ bs e. none_is_some (ap (λ s. onward s (λ q. unescaped_from q t)) (sym stray) ∙ e))
+    λ bs e. absurd (none-some _ (ap (λ s. onward s (λ q. unescaped_from q t)) (sym stray) ∙ e)))
     (cases_eq c 120)) (cases_eq c 92)) (cases_eq c 116)) (cases_eq c 114)) (cases_eq c 110)
 
 first_step : (h : ℕ) (t bs : List ℕ) (o : Option ℕ) → hex_digit h ≡ o → ((m : ℕ) → hex_digit h ≡ Some m → ReadsOn (Digit m) (92 ∷ 120 ∷ h ∷ []) t) → onward (first_digit o) (λ q. unescaped_from q t) ≡ Some bs → StandsFor (92 ∷ 120 ∷ h ∷ t) bs
-first_step h t bs None k d e = none_is_some e
+first_step h t bs None k d e = absurd (none-some _ e)
 first_step h t bs (Some m) k d e = d m k bs e
 
 second_step : (h m l : ℕ) (t bs : List ℕ) (o : Option ℕ) → hex_digit h ≡ Some m → hex_digit l ≡ o → ReadsOn Outside [] t → onward (second_digit m o) (λ q. unescaped_from q t) ≡ Some bs → StandsFor (92 ∷ 120 ∷ h ∷ l ∷ t) bs
-second_step h m l t bs None k j r e = none_is_some e
+second_step h m l t bs None k j r e = absurd (none-some _ e)
 second_step h m l t bs (Some n) k j r e = with_rest (digits h l) (m * 16 + n) t (unescaped t) bs (ap (λ x. two_digits x (hex_digit l)) k ∙ ap (two_digits (Some m)) j) r refl e
 
 -- what is read of a text falls into pieces, from every place
@@ -112,9 +110,9 @@ record Falls (t : List ℕ) : Type 0 where
 falls : (t : List ℕ) → Falls t
 falls [] = record {
   outside = λ bs e. record { pieces = []; spelt = refl; bytes = e };
-  slash = λ bs e. none_is_some e;
-  digits = λ bs e. none_is_some e;
-  digit = λ h m k bs e. none_is_some e;
+  slash = λ bs e. absurd (none-some _ e);
+  digits = λ bs e. absurd (none-some _ e);
+  digit = λ h m k bs e. absurd (none-some _ e);
 }
 falls (b ∷ t) =
     let f = falls t in

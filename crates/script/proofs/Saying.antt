@@ -1,5 +1,5 @@
 -- A word that was found and its argument make what a line says, or what is wrong with it.
-use Rattle.std.proofs.Common.{ℕ, Bool, true, false, cond, leb, List, Some, None, Ok, Err, codes, Option, Result, subst, inr, MatchResult}
+use Rattle.std.proofs.Common.{ℕ, Bool, true, false, cond, leb, List, [], Some, None, Ok, Err, codes, Option, Result, ◌∷◌, subst, inr, MatchResult}
 use Rattle.std.specs.Str.{bytes_eq}
 use Rattle.style.specs.declared.style.EmptyElementHandling.{EmptyElementHandling}
 use Rattle.style.specs.declared.style.EmptyElementHandling.TheVariants.{SelfClosed, SelfClosedWithSpace, Expanded}
@@ -13,7 +13,7 @@ use Rattle.script.specs.declared.words.Word.TheVariants.{New, Style, Memory, Sin
 use Rattle.script.specs.declared.line.Line.{Line}
 use Rattle.script.specs.Cuts.{behind}
 use Rattle.script.specs.Numbers.{decimal_value, up_to, number_of}
-use Rattle.script.specs.Settings.{then, part, parts_left, largest, form_of, level_of, indentation_of, indented, layout_of, sizes_of, sink_of, Wrong}
+use Rattle.script.specs.Settings.{then, one_of, part, parts_left, largest, forms, levels, indentation_of, indented, layout_of, sizes_of, sink_of, Wrong}
 use Rattle.script.specs.Says.{Spoken, Means, Says, Faulty}
 
 -- the faults that lie in a setting
@@ -52,19 +52,9 @@ only_up_to most (Some n) = only_cond (leb n most) (Ok n) (Err fault.BadNumber) f
 only_number : (most : ℕ) (bs : List ℕ) → Only (number_of most bs)
 only_number most bs = only_up_to most (decimal_value bs)
 
--- one of three settings, or none
-only_three : {A : Type 0} (b c d : Bool) (x y z : A) → Only (cond b (Ok x) (cond c (Ok y) (cond d (Ok z) (Err fault.BadSetting))))
-only_three true c d x y z = fine
-only_three false true d x y z = fine
-only_three false false true x y z = fine
-only_three false false false x y z = record { is = tt }
-
-only_level : (bs : List ℕ) → Only (level_of bs)
-only_level bs = only_three (bytes_eq bs (codes "full")) (bytes_eq bs (codes "partial")) (bytes_eq bs (codes "minimal")) Full Partial Minimal
-
-only_form : (bs : List ℕ) → Only (form_of bs)
-only_form bs =
-    only_three (bytes_eq bs (codes "self-closed")) (bytes_eq bs (codes "self-closed-with-space")) (bytes_eq bs (codes "expanded")) SelfClosed SelfClosedWithSpace Expanded
+only_one_of : {A : Type 0} (bs : List ℕ) (table : List (List ℕ × A)) → Only (one_of bs table)
+only_one_of bs [] = record { is = tt }
+only_one_of bs (s ∷ more) = only_cond (bytes_eq bs s.0) (Ok s.1) (one_of bs more) fine (only_one_of bs more)
 
 only_indentation : (bs : List ℕ) → Only (indentation_of bs)
 only_indentation bs = only_then _ _ (only_number 255 (part bs)) (λ b. only_then _ _ (only_number 65535 (parts_left bs)) (λ n. fine))
@@ -74,7 +64,7 @@ only_indented form None = fine
 only_indented form (Some bs) = only_then _ _ (only_indentation bs) (λ i. fine)
 
 only_layout : (bs : List ℕ) → Only (layout_of bs)
-only_layout bs = only_then _ _ (only_form (part bs)) (λ form. only_indented form (behind 32 bs))
+only_layout bs = only_then _ _ (only_one_of (part bs) forms) (λ form. only_indented form (behind 32 bs))
 
 only_sizes : (bs : List ℕ) → Only (sizes_of bs)
 only_sizes bs =
@@ -94,7 +84,7 @@ wrong_setting New bs e h = absurd h
 wrong_setting Style bs e h = subst InSetting h (only_layout bs).is
 wrong_setting Memory bs e h = subst InSetting h (only_sizes bs).is
 wrong_setting Sink bs e h = subst InSetting h (only_sink bs).is
-wrong_setting Level bs e h = subst InSetting h (only_level bs).is
+wrong_setting Level bs e h = subst InSetting h (only_one_of bs levels).is
 wrong_setting Open bs e h = absurd h
 wrong_setting Field bs e h = absurd h
 wrong_setting Text bs e h = absurd h

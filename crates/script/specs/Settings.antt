@@ -39,12 +39,17 @@ abbrev pub one_of : {A : Type 0} → List ℕ → List (List ℕ × A) → Resul
 one_of bs [] = Err BadSetting
 one_of bs (s ∷ more) = cond (bytes_eq bs s.0) (Ok s.1) (one_of bs more)
 
+abbrev pub forms : List (List ℕ × EmptyElementHandling)
+forms = (codes "self-closed", SelfClosed) ∷ (codes "self-closed-with-space", SelfClosedWithSpace) ∷ (codes "expanded", Expanded) ∷ []
+
+abbrev pub levels : List (List ℕ × QuoteLevel)
+levels = (codes "full", Full) ∷ (codes "partial", Partial) ∷ (codes "minimal", Minimal) ∷ []
+
 abbrev pub form_of : List ℕ → Result EmptyElementHandling Fault
-form_of bs =
-    one_of bs ((codes "self-closed", SelfClosed) ∷ (codes "self-closed-with-space", SelfClosedWithSpace) ∷ (codes "expanded", Expanded) ∷ [])
+form_of bs = one_of bs forms
 
 abbrev pub level_of : List ℕ → Result QuoteLevel Fault
-level_of bs = one_of bs ((codes "full", Full) ∷ (codes "partial", Partial) ∷ (codes "minimal", Minimal) ∷ [])
+level_of bs = one_of bs levels
 
 -- BYTE SIZE
 abbrev pub indentation_of : List ℕ → Result Indentation Fault

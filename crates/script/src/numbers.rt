@@ -13,10 +13,8 @@ pub fn number(text: &[u8], most: usize) -> Result<usize, Fault>
     }
     let mut value: u128 = 0;
     for c in text {
-        if !c.is_ascii_digit() {
-            return Err(Fault::BadNumber);
-        }
-        value = value * 10 + (*c - b'0') as u128;
+        let digit = char::from(*c).to_digit(10).ok_or(Fault::BadNumber)?;
+        value = value * 10 + u128::from(digit);
         if value > most as u128 {
             return Err(Fault::BadNumber);
         }

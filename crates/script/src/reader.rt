@@ -13,6 +13,7 @@ use crate::order::Phase;
 use std::alloc::Global;
 
 /// The first line of a script, without its line feed, and the bytes after it.
+#[tactic(auto, using(crate::proofs::Cutting::later_shorter))]
 pub fn split_line(script: &[u8]) -> (&[u8], &[u8])
     ensures line { result.0.now ≡ first_line script.now }
     ensures rest { result.1.now ≡ later_lines script.now }
