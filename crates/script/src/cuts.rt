@@ -8,6 +8,7 @@ pub fn cut(at: u8, text: &[u8]) -> (&[u8], Option<&[u8]>)
     ensures front { result.0.now ≡ before at text.now }
     ensures back { option_map (λ x. x.now) result.1 ≡ behind at text.now }
 {
+    // A pair and no `split_once`, since the front is there where nothing is cut.
     match text.iter().position(|byte| *byte == at) {
         Some(i) => (&text[..i], Some(&text[i + 1..])),
         None => (text, None),

@@ -11,6 +11,7 @@ pub fn number(text: &[u8], most: usize) -> Result<usize, Fault>
     if text.is_empty() {
         return Err(Fault::BadNumber);
     }
+    // Digit by digit, since `parse` would take a sign too.
     let mut value: u128 = 0;
     for c in text {
         let digit = char::from(*c).to_digit(10).ok_or(Fault::BadNumber)?;

@@ -53,6 +53,7 @@ impl<'s> Script<'s> {
         }
     }
 
+    // A method and no `Iterator`, since each call is lent the heap.
     /// The next line with its number, counted from 1, or nothing at the end.
     /// An error is told with its line, and the line counts as read.
     pub fn next_line(&mut self, heap: Global) -> Result<Option<Numbered>, ScriptError>

@@ -109,6 +109,7 @@ pub fn sizes_of(text: &[u8]) -> Result<Sizes, Fault>
 pub fn sink_of(text: &[u8]) -> Result<SinkChoice, Fault>
     ensures value { result ≡ sink_of text.now }
 {
+    // No table, since only `buffer` takes a number.
     if text == b"pages".as_slice() {
         return Ok(SinkChoice::Pages);
     }

@@ -3,6 +3,7 @@ ghost use Rattle.std.specs.Prelude.{◌≡◌};
 ghost use Rattle.script.specs.Words.{spelling, takes_argument, Names, ToldApart};
 
 /// A word of a script: five that set up, and thirteen calls.
+// Beside `Line`, since a word is found before its argument is read.
 #[derive(Clone, Copy, PartialEq, Eq, Debug)]
 pub enum Word {
     New,

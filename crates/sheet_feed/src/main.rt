@@ -29,10 +29,10 @@ fn report<S: Sink>(rt: &HostRuntime, label: &str, sink: &S) -> io::Result<()> {
 }
 
 fn put<S: Sink>(rt: &HostRuntime, label: &str, sink: &mut S, bytes: &[u8]) -> io::Result<()> {
-    match sink.put(bytes) {
-        Ok(()) => Ok(()),
-        Err(refusal) => println!(rt; "    {label}: {refusal}"),
+    if let Err(refusal) = sink.put(bytes) {
+        println!(rt; "    {label}: {refusal}")?;
     }
+    Ok(())
 }
 
 // The name for one use under one level, into both sinks.
