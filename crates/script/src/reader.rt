@@ -11,6 +11,7 @@ use crate::fault::{Fault, ScriptError};
 use crate::line::{Line, Numbered, read_line};
 use crate::order::Phase;
 use std::alloc::Global;
+use std::marker::Model;
 
 /// The first line of a script, without its line feed, and the bytes after it.
 #[tactic(auto, using(crate::proofs::Cutting::later_shorter))]
@@ -37,12 +38,20 @@ pub struct Script<'s> {
     rest: &'s [u8],
     read: usize,
     phase: Phase,
-    ghost counts: { read + length rest.now < 2 ^ 64 },
+}
+
+impl<'s> Model for Script<'s> {
+    ghost Value = { Reader };
+
+    ghost view = { λ s. record { rest = s.rest.now; read = s.read; phase = s.phase } };
+
+    // The lines can be counted.
+    ghost invariant = { λ s. s.read + length s.rest.now < 2 ^ 64 };
 }
 
 impl<'s> Script<'s> {
     pub fn new(script: &'s [u8]) -> Script<'s>
-        ensures rest { result.rest.now ≡ script.now }
+        ensures rest { result.rest ≡ script.now }
         ensures read { result.read ≡ 0 }
         ensures phase { result.phase ≡ SettingUp }
     {
@@ -57,7 +66,7 @@ impl<'s> Script<'s> {
     /// The next line with its number, counted from 1, or nothing at the end.
     /// An error is told with its line, and the line counts as read.
     pub fn next_line(&mut self, heap: Global) -> Result<Option<Numbered>, ScriptError>
-        ensures next { Next result (record { rest = self.old.rest.now; read = self.old.read; phase = self.old.phase }) (record { rest = self.new.rest.now; read = self.new.read; phase = self.new.phase }) }
+        ensures next { Next result self.old self.new }
     {
         if self.rest.is_empty() {
             return Ok(None);
