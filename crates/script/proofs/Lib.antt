@@ -1,5 +1,4 @@
 pub mod Cutting
-pub mod Unescaping
 pub mod Piecing
 pub mod Counting
 pub mod Wording
