@@ -3,6 +3,7 @@ use Rattle.std.proofs.Common.{◌≡◌, ℕ, ◌+◌, ◌*◌, Bool, true, fals
 use Rattle.std.specs.List.{flat_map}
 use Rattle.std.proofs.lemmas.Bool.{cases_eq, cond-false}
 use Rattle.std.proofs.lemmas.Option.{none-some}
+use Rattle.std.proofs.lemmas.Bool.Decides.{nat_tests}
 use Rattle.script.specs.declared.escapes.Place.{Place}
 use Rattle.script.specs.declared.escapes.Place.TheVariants.{Outside, Slash, Digits, Digit}
 use Rattle.script.specs.declared.escapes.Step.TheVariants.{Byte, On}
@@ -12,44 +13,19 @@ use Rattle.script.specs.Pieces.{Piece, itself, line_feed, carriage_return, tab, 
 
 -- the pieces in front of what is read
 
-by_test : (x b : ℕ) (t : List ℕ) (test : Bool) → eqb x 92 ≡ test → cond test None (Some x) ≡ Some b → unescaped (x ∷ t) ≡ led (b ∷ []) (unescaped t)
-by_test x b t true h e = absurd (none-some _ e)
-by_test x b t false h e =
-    let same : x ≡ b = cc in
-    ap (λ s. onward (cond s (Some (On Slash)) (Some (Byte x))) (λ q. unescaped_from q t)) h ∙ ap (λ v. led (v ∷ []) (unescaped t)) same
-
-by_digits : (h l b : ℕ) (t : List ℕ) (m n : Option ℕ) → hex_digit h ≡ m → hex_digit l ≡ n → two_digits m n ≡ Some b → unescaped (92 ∷ 120 ∷ h ∷ l ∷ t) ≡ led (b ∷ []) (unescaped t)
-by_digits h l b t None n p q e = absurd (none-some _ e)
-by_digits h l b t (Some m) None p q e = absurd (none-some _ e)
-by_digits h l b t (Some m) (Some n) p q e =
-    let same : m * 16 + n ≡ b = cc in
-    ap (λ o. onward (first_digit o) (λ k. unescaped_from k (l ∷ t))) p ∙ ap (λ o. onward (second_digit m o) (λ k. unescaped_from k t)) q ∙ ap (λ v. led (v ∷ []) (unescaped t)) same
-
 -- a piece in front is read as its byte
 piece_read : (p : Piece) (b : ℕ) (t : List ℕ) → byte_of p ≡ Some b → unescaped (written p ++ t) ≡ led (b ∷ []) (unescaped t)
-piece_read (itself x) b t e = by_test x b t (eqb x 92) refl e
-piece_read line_feed b t e = let same : 10 ≡ b = cc in ap (λ v. led (v ∷ []) (unescaped t)) same
-piece_read carriage_return b t e = let same : 13 ≡ b = cc in ap (λ v. led (v ∷ []) (unescaped t)) same
-piece_read tab b t e = let same : 9 ≡ b = cc in ap (λ v. led (v ∷ []) (unescaped t)) same
-piece_read backslash b t e = let same : 92 ≡ b = cc in ap (λ v. led (v ∷ []) (unescaped t)) same
-piece_read (digits h l) b t e = by_digits h l b t (hex_digit h) (hex_digit l) refl refl e
-
-more_read : (p : Piece) (t : List ℕ) (b : Option ℕ) (cs : Option (List ℕ)) (bs : List ℕ) → byte_of p ≡ b → unescaped t ≡ cs → with_byte b cs ≡ Some bs → unescaped (written p ++ t) ≡ Some bs
-more_read p t None cs bs h k e = absurd (none-some _ e)
-more_read p t (Some b) cs bs h k e = piece_read p b t h ∙ ap (led (b ∷ [])) k ∙ e
-
-none_with : (b : Option ℕ) → with_byte b None ≡ None
-none_with None = refl
-none_with (Some b) = refl
-
-rest_read : (p : Piece) (t : List ℕ) (o : Option (List ℕ)) → ((cs : List ℕ) → o ≡ Some cs → unescaped t ≡ Some cs) → (bs : List ℕ) → with_byte (byte_of p) o ≡ Some bs → unescaped (written p ++ t) ≡ Some bs
-rest_read p t None r bs e = absurd (none-some _ (sym (none_with (byte_of p)) ∙ e))
-rest_read p t (Some cs) r bs e = more_read p t (byte_of p) (Some cs) bs refl (r cs refl) e
+piece_read (itself x) b t e = grind (arith, nat_tests)
+piece_read line_feed b t e = cc
+piece_read carriage_return b t e = cc
+piece_read tab b t e = cc
+piece_read backslash b t e = cc
+piece_read (digits h l) b t e = grind (arith, nat_tests)
 
 -- pieces are read as their bytes
 all_read : (ps : List Piece) (bs : List ℕ) → bytes_of ps ≡ Some bs → unescaped (flat_map written ps) ≡ Some bs
 all_read [] bs e = e
-all_read (p ∷ ps) bs e = rest_read p (flat_map written ps) (bytes_of ps) (all_read ps) bs e
+all_read (p ∷ ps) bs e = grind (arith, piece_read p, all_read ps)
 
 -- what is read falls into pieces
 
@@ -132,7 +108,7 @@ one_more b bs t r n =
     let read : led (b ∷ []) (unescaped t) ≡ Some (b ∷ bs) = ap (led (b ∷ [])) r in
     ⊎_elim (λ e. (92 ∷ 92 ∷ t, ap (λ v. led (v ∷ []) (unescaped t)) (sym e) ∙ read, n))
     (λ other. ⊎_elim (λ e. (92 ∷ 110 ∷ t, ap (λ v. led (v ∷ []) (unescaped t)) (sym e) ∙ read, n))
-    (λ plain. (b ∷ t, by_test b b t false (ne_eqb b 92 other) refl ∙ read, cond-false _ _ _ (ne_eqb b 10 plain) ∙ n))
+    (λ plain. (b ∷ t, piece_read (itself b) b t (cond-false _ _ _ (ne_eqb b 92 other)) ∙ read, cond-false _ _ _ (ne_eqb b 10 plain) ∙ n))
     (cases_eq b 10)) (cases_eq b 92)
 
 pub any_bytes : AnyBytes
