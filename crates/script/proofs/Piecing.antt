@@ -49,24 +49,10 @@ outside_test : (b : ℕ) (t bs : List ℕ) (test : Bool) → eqb b 92 ≡ test �
 outside_test b t bs true h o s e = subst (λ c. StandsFor (c ∷ t) bs) (sym (eqb-true b 92 h)) (s bs e)
 outside_test b t bs false h o s e = with_rest (itself b) b t (unescaped t) bs (ap (λ x. cond x None (Some b)) h) o refl e
 
--- a letter that names a byte
-at_letter : (p : Piece) (b c : ℕ) (t : List ℕ) → byte_of p ≡ Some b → written p ≡ 92 ∷ c ∷ [] → escape_letter c ≡ Some (Byte b) → ReadsOn Outside [] t → ReadsOn Slash (92 ∷ []) (c ∷ t)
-at_letter p b c t h w k o bs e =
-    subst (λ l. StandsFor (l ++ t) bs) w (with_rest p b t (unescaped t) bs h o refl (ap (λ s. onward s (λ q. unescaped_from q t)) (sym k) ∙ e))
-
-slash_step : (c : ℕ) (t : List ℕ) → ReadsOn Outside [] t → ReadsOn Digits (92 ∷ 120 ∷ []) t → ReadsOn Slash (92 ∷ []) (c ∷ t)
-slash_step c t o d =
-    let At : ℕ → Type 0 = λ x. ReadsOn Slash (92 ∷ []) (x ∷ t) in
-    let from : (x : ℕ) → c ≡ x → At x → At c = λ x e r. subst At (sym e) r in
-    ⊎_elim (λ e. from 110 e (at_letter line_feed 10 110 t refl refl refl o))
-    (λ n. ⊎_elim (λ e. from 114 e (at_letter carriage_return 13 114 t refl refl refl o))
-    (λ r. ⊎_elim (λ e. from 116 e (at_letter tab 9 116 t refl refl refl o))
-    (λ k. ⊎_elim (λ e. from 92 e (at_letter backslash 92 92 t refl refl refl o))
-    (λ s. ⊎_elim (λ e. from 120 e d)
-    (λ x.
-    let stray : escape_letter c ≡ None = cond-false _ _ _ (ne_eqb c 110 n) ∙ cond-false _ _ _ (ne_eqb c 114 r) ∙ cond-false _ _ _ (ne_eqb c 116 k) ∙ cond-false _ _ _ (ne_eqb c 92 s) ∙ cond-false _ _ _ (ne_eqb c 120 x) in
-    λ bs e. absurd (none-some _ (ap (λ s. onward s (λ q. unescaped_from q t)) (sym stray) ∙ e)))
-    (cases_eq c 120)) (cases_eq c 92)) (cases_eq c 116)) (cases_eq c 114)) (cases_eq c 110)
+slash_step : (c : ℕ) (t bs : List ℕ) → ReadsOn Outside [] t → ReadsOn Digits (92 ∷ 120 ∷ []) t → onward (escape_letter c) (λ q. unescaped_from q t) ≡ Some bs → StandsFor (92 ∷ c ∷ t) bs
+slash_step c t bs o d e =
+    let by : (p : Piece) (b : ℕ) → byte_of p ≡ Some b → led (b ∷ []) (unescaped t) ≡ Some bs → StandsFor (written p ++ t) bs = λ p b h k. with_rest p b t (unescaped t) bs h o refl k in
+    grind (arith, nat_tests, by line_feed 10 refl, by carriage_return 13 refl, by tab 9 refl, by backslash 92 refl, d bs)
 
 first_step : (h : ℕ) (t bs : List ℕ) (o : Option ℕ) → hex_digit h ≡ o → ((m : ℕ) → hex_digit h ≡ Some m → ReadsOn (Digit m) (92 ∷ 120 ∷ h ∷ []) t) → onward (first_digit o) (λ q. unescaped_from q t) ≡ Some bs → StandsFor (92 ∷ 120 ∷ h ∷ t) bs
 first_step h t bs None k d e = absurd (none-some _ e)
@@ -94,7 +80,7 @@ falls (b ∷ t) =
     let f = falls t in
     record {
       outside = λ bs e. outside_test b t bs (eqb b 92) refl f.outside f.slash e;
-      slash = slash_step b t f.outside f.digits;
+      slash = λ bs e. slash_step b t bs f.outside f.digits e;
       digits = λ bs e. first_step b t bs (hex_digit b) refl (f.digit b) e;
       digit = λ h m k bs e. second_step h m b t bs (hex_digit b) k refl f.outside e;
     }
