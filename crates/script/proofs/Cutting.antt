@@ -2,6 +2,7 @@
 use Rattle.std.proofs.Common.{◌≡◌, ℕ, ◌+◌, ◌<◌, ◌≤◌, Bool, true, false, cond, eqb, List, [], ◌∷◌, ◌++◌, length, get_or, take, drop, zero, suc, Some, None, Option, unwrap_or, sym, refl, ap, ◌∙◌, append_assoc, append-nil, arith, Bor, eq-eqb, ne_eqb, eqb-true}
 use borrow.Author.Tests.{eqb-false}
 use Rattle.std.proofs.lemmas.List.{take-append-drop, drop_more}
+use Rattle.std.proofs.lemmas.Bool.Decides.{nat_tests}
 use Rattle.std.proofs.lemmas.Grind.{common_steps}
 use Rattle.std.specs.Option.{option_map}
 use Rattle.script.specs.Cuts.{before, behind, Lacks, Parts, CutAtTheFirst}
@@ -9,15 +10,11 @@ use Rattle.script.specs.Cuts.{before, behind, Lacks, Parts, CutAtTheFirst}
 -- what stands behind a byte is no longer than the whole
 behind_within : (b : ℕ) (bs : List ℕ) → length (unwrap_or (behind b bs) []) ≤ length bs
 behind_within b [] = omega arith
-behind_within b (x ∷ xs) =
-    let later = behind_within b xs in
-    elim (eqb x b) as (λ t. length (unwrap_or (cond t (Some xs) (behind b xs)) []) ≤ length (x ∷ xs)) [ true ↦ omega arith | false ↦ omega (arith, later) ]
+behind_within b (x ∷ xs) = grind (arith, nat_tests, behind_within b xs)
 
 pub later_shorter : (b : ℕ) (bs : List ℕ) → 0 < length bs → length (unwrap_or (behind b bs) []) < length bs
 later_shorter b [] h = absurd (omega arith)
-later_shorter b (x ∷ xs) h =
-    let later = behind_within b xs in
-    elim (eqb x b) as (λ t. length (unwrap_or (cond t (Some xs) (behind b xs)) []) < length (x ∷ xs)) [ true ↦ omega arith | false ↦ omega (arith, later) ]
+later_shorter b (x ∷ xs) h = grind (arith, nat_tests, behind_within b xs)
 
 parts_cons : (b x : ℕ) (text front : List ℕ) (rest : Option (List ℕ)) → (x ≡ b → ⊥) → Parts b text front rest → Parts b (x ∷ text) (x ∷ front) rest
 parts_cons b x text front None n p = (ap (λ l. x ∷ l) p.0, (n, p.1))
@@ -34,12 +31,7 @@ parts b (x ∷ xs) = parts_step b x xs (eqb x b) refl (parts b xs)
 -- where the front has no b, the cut lies behind it
 past_front : (b : ℕ) (front rest : List ℕ) → Lacks b front → (before b (front ++ rest) ≡ front ++ before b rest) × (behind b (front ++ rest) ≡ behind b rest)
 past_front b [] rest l = (refl, refl)
-past_front b (x ∷ xs) rest l =
-    let later = past_front b xs rest l.1 in
-    let other = ne_eqb x b l.0 in (
-      ap (λ t. cond t [] (x ∷ before b (xs ++ rest))) other ∙ ap (λ k. x ∷ k) later.0,
-      ap (λ t. cond t (Some (xs ++ rest)) (behind b (xs ++ rest))) other ∙ later.1,
-    )
+past_front b (x ∷ xs) rest l = grind (arith, nat_tests, past_front b xs rest l.1)
 
 only_parts : (b : ℕ) (text front : List ℕ) (rest : Option (List ℕ)) → Parts b text front rest → (before b text ≡ front) × (behind b text ≡ rest)
 only_parts b text front None p =

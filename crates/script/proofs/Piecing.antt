@@ -8,7 +8,7 @@ use Rattle.script.specs.declared.escapes.Place.{Place}
 use Rattle.script.specs.declared.escapes.Place.TheVariants.{Outside, Slash, Digits, Digit}
 use Rattle.script.specs.declared.escapes.Step.TheVariants.{Byte, On}
 use Rattle.script.specs.Cuts.{behind}
-use Rattle.script.specs.Escapes.{hex_digit, escape_letter, first_digit, second_digit, led, onward, unescaped_from, unescaped}
+use Rattle.script.specs.Escapes.{hex_digit, escape_letter, escape_step, first_digit, second_digit, led, onward, unescaped_from, unescaped}
 use Rattle.script.specs.Pieces.{Piece, itself, line_feed, carriage_return, tab, backslash, digits, written, two_digits, byte_of, with_byte, bytes_of, StandsFor, ReadByPieces, AnyBytes}
 
 -- the pieces in front of what is read
@@ -45,9 +45,10 @@ with_rest : (p : Piece) (b : ℕ) (t : List ℕ) (o : Option (List ℕ)) (bs : L
 with_rest p b t None bs h r k e = absurd (none-some _ e)
 with_rest p b t (Some cs) bs h r k e = let same : b ∷ cs ≡ bs = cc in subst (StandsFor (written p ++ t)) same (stands_cons p b h (r cs k))
 
-outside_test : (b : ℕ) (t bs : List ℕ) (test : Bool) → eqb b 92 ≡ test → ReadsOn Outside [] t → ReadsOn Slash (92 ∷ []) t → onward (cond test (Some (On Slash)) (Some (Byte b))) (λ q. unescaped_from q t) ≡ Some bs → StandsFor (b ∷ t) bs
-outside_test b t bs true h o s e = subst (λ c. StandsFor (c ∷ t) bs) (sym (eqb-true b 92 h)) (s bs e)
-outside_test b t bs false h o s e = with_rest (itself b) b t (unescaped t) bs (ap (λ x. cond x None (Some b)) h) o refl e
+outside_step : (b : ℕ) (t bs : List ℕ) → ReadsOn Outside [] t → ReadsOn Slash (92 ∷ []) t → onward (escape_step Outside b) (λ q. unescaped_from q t) ≡ Some bs → StandsFor (b ∷ t) bs
+outside_step b t bs o s e =
+    let by : byte_of (itself b) ≡ Some b → led (b ∷ []) (unescaped t) ≡ Some bs → StandsFor (b ∷ t) bs = λ h k. with_rest (itself b) b t (unescaped t) bs h o refl k in
+    grind (arith, nat_tests, by, s bs)
 
 slash_step : (c : ℕ) (t bs : List ℕ) → ReadsOn Outside [] t → ReadsOn Digits (92 ∷ 120 ∷ []) t → onward (escape_letter c) (λ q. unescaped_from q t) ≡ Some bs → StandsFor (92 ∷ c ∷ t) bs
 slash_step c t bs o d e =
@@ -79,7 +80,7 @@ falls [] = record {
 falls (b ∷ t) =
     let f = falls t in
     record {
-      outside = λ bs e. outside_test b t bs (eqb b 92) refl f.outside f.slash e;
+      outside = λ bs e. outside_step b t bs f.outside f.slash e;
       slash = λ bs e. slash_step b t bs f.outside f.digits e;
       digits = λ bs e. first_step b t bs (hex_digit b) refl (f.digit b) e;
       digit = λ h m k bs e. second_step h m b t bs (hex_digit b) k refl f.outside e;
