@@ -1,5 +1,5 @@
 -- A word that was found and its argument make what a line says, or what is wrong with it.
-use Rattle.std.proofs.Common.{ℕ, Bool, true, false, cond, leb, List, [], Some, None, Ok, Err, codes, Option, Result, ◌∷◌, subst, inr, MatchResult}
+use Rattle.std.proofs.Common.{ℕ, Bool, true, false, cond, leb, List, [], Some, None, Ok, Err, codes, Option, Result, arith, ◌∷◌, subst, inr, MatchResult}
 use Rattle.std.specs.Str.{bytes_eq}
 use Rattle.style.specs.declared.style.EmptyElementHandling.{EmptyElementHandling}
 use Rattle.style.specs.declared.style.EmptyElementHandling.TheVariants.{SelfClosed, SelfClosedWithSpace, Expanded}
@@ -71,33 +71,14 @@ only_sizes bs =
     only_then _ _ (only_number largest (part bs)) (λ stage. only_then _ _ (only_number largest (part (parts_left bs))) (λ names. only_then _ _ (only_number largest (parts_left (parts_left bs))) (λ frames. fine)))
 
 only_buffer : (b c : Bool) (r : Result SinkChoice Fault) → Only r → Only (cond b (Ok Pages) (cond c r (Err fault.BadSetting)))
-only_buffer true c r p = fine
-only_buffer false true r p = p
-only_buffer false false r p = record { is = tt }
+only_buffer b c r p = only_cond b _ _ fine (only_cond c _ _ p (record { is = tt }))
 
 only_sink : (bs : List ℕ) → Only (sink_of bs)
 only_sink bs =
     only_buffer (bytes_eq bs (codes "pages")) (bytes_eq (part bs) (codes "buffer")) (then (number_of largest (parts_left bs)) (λ n. Ok (Buffer n))) (only_then _ _ (only_number largest (parts_left bs)) (λ n. fine))
 
 wrong_setting : (w : Word) (bs : List ℕ) (e : Fault) → Wrong w bs e → OfSetting e
-wrong_setting New bs e h = absurd h
-wrong_setting Style bs e h = subst InSetting h (only_layout bs).is
-wrong_setting Memory bs e h = subst InSetting h (only_sizes bs).is
-wrong_setting Sink bs e h = subst InSetting h (only_sink bs).is
-wrong_setting Level bs e h = subst InSetting h (only_one_of bs levels).is
-wrong_setting Open bs e h = absurd h
-wrong_setting Field bs e h = absurd h
-wrong_setting Text bs e h = absurd h
-wrong_setting Nothing bs e h = absurd h
-wrong_setting Variant bs e h = absurd h
-wrong_setting Wrapped bs e h = absurd h
-wrong_setting Row bs e h = absurd h
-wrong_setting VariantRow bs e h = absurd h
-wrong_setting Record bs e h = absurd h
-wrong_setting VariantRecord bs e h = absurd h
-wrong_setting End bs e h = absurd h
-wrong_setting Finish bs e h = absurd h
-wrong_setting Abandon bs e h = absurd h
+wrong_setting w bs e h = grind (arith, only_layout bs, only_sizes bs, only_sink bs, only_one_of bs levels)
 
 -- a wrong setting is the line's fault
 faulty : (line : List ℕ) (w : Word) (bs : List ℕ) (e : Fault) → Spoken line w bs → Wrong w bs e → OfSetting e → Faulty e line
