@@ -44,23 +44,12 @@ mutual
 -- behind a call, a set-up word of the same writer stops the script
 pending_stops : (between rest : List Role) → SameWriter between → after_all Calling (between ++ Sets ∷ rest) ≡ Err TooLate
 pending_stops [] rest s = refl
-pending_stops (Starts ∷ rs) rest s = absurd s
-pending_stops (Sets ∷ rs) rest s = refl
-pending_stops (Anywhere ∷ rs) rest s = pending_stops rs rest s
-pending_stops (Calls ∷ rs) rest s = pending_stops rs rest s
+pending_stops (r ∷ rs) rest s = grind (arith, pending_stops rs rest)
 
 -- whatever comes before
 late_stops : (p : Phase) (front between rest : List Role) → SameWriter between → after_all p (front ++ Calls ∷ (between ++ Sets ∷ rest)) ≡ Err TooLate
-late_stops SettingUp [] between rest s = pending_stops between rest s
-late_stops Calling [] between rest s = pending_stops between rest s
-late_stops SettingUp (Starts ∷ rs) between rest s = late_stops SettingUp rs between rest s
-late_stops Calling (Starts ∷ rs) between rest s = late_stops SettingUp rs between rest s
-late_stops SettingUp (Sets ∷ rs) between rest s = late_stops SettingUp rs between rest s
-late_stops Calling (Sets ∷ rs) between rest s = refl
-late_stops SettingUp (Anywhere ∷ rs) between rest s = late_stops SettingUp rs between rest s
-late_stops Calling (Anywhere ∷ rs) between rest s = late_stops Calling rs between rest s
-late_stops SettingUp (Calls ∷ rs) between rest s = late_stops Calling rs between rest s
-late_stops Calling (Calls ∷ rs) between rest s = late_stops Calling rs between rest s
+late_stops p [] between rest s = grind (arith, pending_stops between rest s)
+late_stops p (r ∷ rs) between rest s = grind (arith, late_stops SettingUp rs between rest s, late_stops Calling rs between rest s)
 
 pub set_up_first : SetUpFirst
 set_up_first rs = (stopped_setting rs, λ l. ap (after_all SettingUp) l.is ∙ late_stops SettingUp l.front l.between l.rest l.same)

@@ -19,24 +19,7 @@ abbrev pub among : List ℕ → Option Word
 among bs = find (λ w. bytes_eq bs (spelling w)) words
 
 told : (w : Word) → among (spelling w) ≡ Some w
-told New = refl
-told Style = refl
-told Memory = refl
-told Sink = refl
-told Level = refl
-told Open = refl
-told Field = refl
-told Text = refl
-told Nothing = refl
-told Variant = refl
-told Wrapped = refl
-told Row = refl
-told VariantRow = refl
-told Record = refl
-told VariantRecord = refl
-told End = refl
-told Finish = refl
-told Abandon = refl
+told w = grind arith
 
 pub told_apart : ToldApart
 told_apart v w e = let same : Some v ≡ Some w = sym (told v) ∙ ap among e ∙ told w in cc
