@@ -1,10 +1,9 @@
 -- Where a text is cut: at a byte that is not in what stands before it.
-use Rattle.std.proofs.Common.{◌≡◌, ℕ, ◌+◌, ◌<◌, ◌≤◌, Bool, true, false, cond, eqb, List, [], ◌∷◌, ◌++◌, length, get_or, take, drop, zero, suc, Some, None, Option, unwrap_or, sym, refl, ap, ◌∙◌, append_assoc, append-nil, arith, Bor, eq-eqb, ne_eqb, eqb-true}
+use Rattle.std.proofs.Common.{◌≡◌, ℕ, ◌+◌, ◌<◌, ◌≤◌, true, false, cond, eqb, List, [], ◌∷◌, ◌++◌, length, get_or, take, drop, suc, Some, None, Option, unwrap_or, sym, refl, ap, ◌∙◌, append-nil, arith, eq-eqb, eqb-true}
 use borrow.Author.Tests.{eqb-false}
 use Rattle.std.proofs.lemmas.List.{take-append-drop, drop_more}
 use Rattle.std.proofs.lemmas.Bool.Decides.{nat_tests}
 use Rattle.std.proofs.lemmas.Grind.{common_steps}
-use Rattle.std.specs.Option.{option_map}
 use Rattle.script.specs.Cuts.{before, behind, Lacks, Parts, CutAtTheFirst}
 
 -- what stands behind a byte is no longer than the whole
@@ -16,17 +15,9 @@ pub later_shorter : (b : ℕ) (bs : List ℕ) → 0 < length bs → length (unwr
 later_shorter b [] h = absurd (omega arith)
 later_shorter b (x ∷ xs) h = grind (arith, nat_tests, behind_within b xs)
 
-parts_cons : (b x : ℕ) (text front : List ℕ) (rest : Option (List ℕ)) → (x ≡ b → ⊥) → Parts b text front rest → Parts b (x ∷ text) (x ∷ front) rest
-parts_cons b x text front None n p = (ap (λ l. x ∷ l) p.0, (n, p.1))
-parts_cons b x text front (Some rest) n p = (ap (λ l. x ∷ l) p.0, (n, p.1))
-
-parts_step : (b x : ℕ) (xs : List ℕ) (t : Bool) → eqb x b ≡ t → Parts b xs (before b xs) (behind b xs) → Parts b (x ∷ xs) (cond t [] (x ∷ before b xs)) (cond t (Some xs) (behind b xs))
-parts_step b x xs true h p = (ap (λ y. y ∷ xs) (eqb-true x b h), tt)
-parts_step b x xs false h p = parts_cons b x xs (before b xs) (behind b xs) (eqb-false x b h) p
-
 parts : (b : ℕ) (text : List ℕ) → Parts b text (before b text) (behind b text)
 parts b [] = (refl, tt)
-parts b (x ∷ xs) = parts_step b x xs (eqb x b) refl (parts b xs)
+parts b (x ∷ xs) = grind (arith, nat_tests, parts b xs)
 
 -- where the front has no b, the cut lies behind it
 past_front : (b : ℕ) (front rest : List ℕ) → Lacks b front → (before b (front ++ rest) ≡ front ++ before b rest) × (behind b (front ++ rest) ≡ behind b rest)

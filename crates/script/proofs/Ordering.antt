@@ -1,5 +1,5 @@
 -- Which orders are stopped: by induction over the lines, in either phase.
-use Rattle.std.proofs.Common.{◌≡◌, ℕ, ◌⊎◌, List, [], ◌∷◌, ◌++◌, Ok, Err, refl, ap, ◌∙◌, inl, inr, arith}
+use Rattle.std.proofs.Common.{◌≡◌, ◌⊎◌, List, [], ◌∷◌, ◌++◌, Err, refl, ap, ◌∙◌, inl, inr, arith}
 use Rattle.script.specs.declared.fault.Fault.TheVariants.{TooLate}
 use Rattle.script.specs.declared.order.Role.{Role}
 use Rattle.script.specs.declared.order.Role.TheVariants.{Starts, Sets, Anywhere, Calls}

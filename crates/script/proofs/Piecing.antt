@@ -1,12 +1,11 @@
 -- Reading byte by byte and falling into pieces are the same: each way by induction.
-use Rattle.std.proofs.Common.{◌≡◌, ℕ, ◌+◌, ◌*◌, Bool, true, false, cond, eqb, List, [], ◌∷◌, ◌++◌, Some, None, Option, sym, refl, ap, ◌∙◌, subst, ⊎_elim, arith, ne_eqb, eqb-true}
+use Rattle.std.proofs.Common.{◌≡◌, ℕ, ◌+◌, ◌*◌, List, [], ◌∷◌, ◌++◌, Some, None, Option, sym, refl, ap, ◌∙◌, subst, ⊎_elim, arith, ne_eqb}
 use Rattle.std.specs.List.{flat_map}
 use Rattle.std.proofs.lemmas.Bool.{cases_eq, cond-false}
 use Rattle.std.proofs.lemmas.Option.{none-some}
 use Rattle.std.proofs.lemmas.Bool.Decides.{nat_tests}
 use Rattle.script.specs.declared.escapes.Place.{Place}
 use Rattle.script.specs.declared.escapes.Place.TheVariants.{Outside, Slash, Digits, Digit}
-use Rattle.script.specs.declared.escapes.Step.TheVariants.{Byte, On}
 use Rattle.script.specs.Cuts.{behind}
 use Rattle.script.specs.Escapes.{hex_digit, escape_letter, escape_step, first_digit, second_digit, led, onward, unescaped_from, unescaped}
 use Rattle.script.specs.Pieces.{Piece, itself, line_feed, carriage_return, tab, backslash, digits, written, two_digits, byte_of, with_byte, bytes_of, StandsFor, ReadByPieces, AnyBytes}

@@ -1,15 +1,12 @@
 -- A word that was found and its argument make what a line says, or what is wrong with it.
-use Rattle.std.proofs.Common.{ℕ, Bool, true, false, cond, leb, List, [], Some, None, Ok, Err, codes, Option, Result, arith, ◌∷◌, subst, inr, MatchResult}
+use Rattle.std.proofs.Common.{ℕ, Bool, true, false, cond, leb, List, [], Some, None, Ok, Err, codes, Option, Result, arith, ◌∷◌, inr, MatchResult}
 use Rattle.std.specs.Str.{bytes_eq}
 use Rattle.style.specs.declared.style.EmptyElementHandling.{EmptyElementHandling}
-use Rattle.style.specs.declared.style.EmptyElementHandling.TheVariants.{SelfClosed, SelfClosedWithSpace, Expanded}
-use Rattle.xml.specs.declared.escape.QuoteLevel.TheVariants.{Full, Partial, Minimal}
 use Rattle.script.specs.declared.settings.SinkChoice.{SinkChoice}
 use Rattle.script.specs.declared.settings.SinkChoice.TheVariants.{Buffer, Pages}
 use Rattle.script.specs.declared.fault.Fault.{Fault}
 use Rattle.script.specs.declared.fault.Fault.TheVariants as fault
 use Rattle.script.specs.declared.words.Word.{Word}
-use Rattle.script.specs.declared.words.Word.TheVariants.{New, Style, Memory, Sink, Level, Open, Field, Text, Nothing, Variant, Wrapped, Row, VariantRow, Record, VariantRecord, End, Finish, Abandon}
 use Rattle.script.specs.declared.line.Line.{Line}
 use Rattle.script.specs.Cuts.{behind}
 use Rattle.script.specs.Numbers.{decimal_value, up_to, number_of}
@@ -82,13 +79,7 @@ wrong_setting w bs e h = grind (arith, only_layout bs, only_sizes bs, only_sink 
 
 -- a wrong setting is the line's fault
 faulty : (line : List ℕ) (w : Word) (bs : List ℕ) (e : Fault) → Spoken line w bs → Wrong w bs e → OfSetting e → Faulty e line
-faulty line w bs fault.UnknownWord s h o = absurd o
-faulty line w bs fault.UnwantedArgument s h o = absurd o
-faulty line w bs fault.BadEscape s h o = absurd o
-faulty line w bs fault.BadNumber s h o = (w, bs, s, h)
-faulty line w bs fault.BadSetting s h o = (w, bs, s, h)
-faulty line w bs fault.TooLate s h o = absurd o
-faulty line w bs fault.Memory s h o = absurd o
+faulty line w bs e s h o = grind (arith, s, h)
 
 -- what a word says with its argument, the line says
 pub said : (line : List ℕ) (w : Word) (bs : List ℕ) (r : Result Line Fault) → Spoken line w bs → MatchResult r (λ l. Means l w bs) (λ e. Wrong w bs e) → MatchResult r (λ l. Says l line) (λ e. Faulty e line)
