@@ -10,8 +10,6 @@ use Rattle.script.specs.Cuts.{behind}
 use Rattle.script.specs.Escapes.{hex_digit, escape_letter, escape_step, first_digit, second_digit, led, onward, unescaped_from, unescaped}
 use Rattle.script.specs.Pieces.{Piece, itself, line_feed, carriage_return, tab, backslash, digits, written, two_digits, byte_of, with_byte, bytes_of, StandsFor, ReadByPieces, AnyBytes}
 
--- the pieces in front of what is read
-
 -- a piece in front is read as its byte
 piece_read : (p : Piece) (b : ℕ) (t : List ℕ) → byte_of p ≡ Some b → unescaped (written p ++ t) ≡ led (b ∷ []) (unescaped t)
 piece_read (itself x) b t e = grind (arith, nat_tests)
