@@ -1,5 +1,5 @@
 -- The lines of a script one after another, each with its number. Assumes nothing.
-use Rattle.std.specs.Prelude.{◌≡◌, ℕ, ◌+◌, ◌<◌, ◌⊎◌, List, [], length, Some, None, Ok, Err, Option, Result}
+use Rattle.std.specs.Prelude.{◌≡◌, ℕ, ◌+◌, ◌^◌, ◌<◌, ◌⊎◌, List, [], length, Some, None, Ok, Err, Option, Result}
 use Rattle.script.specs.declared.fault.Fault.{Fault}
 use Rattle.script.specs.declared.fault.ScriptError.{ScriptError}
 use Rattle.script.specs.declared.order.Phase.{Phase}
@@ -18,6 +18,10 @@ pub record Reader : Type 0 where
   pub rest : List ℕ
   pub read : ℕ
   pub phase : Phase
+
+-- the lines read, and those of the bytes that are left, can be counted
+abbrev pub Countable : Reader → Type 0
+Countable r = r.read + length r.rest < 2 ^ 64
 
 -- one line further
 pub record Further (old new : Reader) : Type 0 where

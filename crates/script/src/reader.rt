@@ -1,9 +1,9 @@
 // A script that is read line by line.
-ghost use Rattle.std.specs.Prelude.{◌≡◌, ◌+◌, ◌^◌, ◌<◌, length, Ok, MatchResult};
+ghost use Rattle.std.specs.Prelude.{◌≡◌, ◌<◌, length, Ok, MatchResult};
 ghost use Rattle.script.specs.Cuts.{first_line, later_lines};
 ghost use Rattle.script.specs.Says.{Says};
 ghost use Rattle.script.specs.Order.{role, follows};
-ghost use Rattle.script.specs.Script.{Stops, Reader, Next};
+ghost use Rattle.script.specs.Script.{Stops, Reader, Countable, Next};
 ghost use Rattle.script.specs.declared.order.Phase.TheVariants.{SettingUp};
 
 use crate::cuts::part;
@@ -45,8 +45,7 @@ impl<'s> Model for Script<'s> {
 
     ghost view = { λ s. record { rest = s.rest.now; read = s.read; phase = s.phase } };
 
-    // The lines can be counted.
-    ghost invariant = { λ s. s.read + length s.rest.now < 2 ^ 64 };
+    ghost invariant = { λ s. Countable (record { rest = s.rest.now; read = s.read; phase = s.phase }) };
 }
 
 impl<'s> Script<'s> {
@@ -54,6 +53,7 @@ impl<'s> Script<'s> {
         ensures rest { result.rest ≡ script.now }
         ensures read { result.read ≡ 0 }
         ensures phase { result.phase ≡ SettingUp }
+        ensures counts { Countable result }
     {
         Script {
             rest: script,
@@ -67,6 +67,7 @@ impl<'s> Script<'s> {
     /// An error is told with its line, and the line counts as read.
     pub fn next_line(&mut self, heap: Global) -> Result<Option<Numbered>, ScriptError>
         ensures next { Next result self.old self.new }
+        ensures counts { Countable self.new }
     {
         if self.rest.is_empty() {
             return Ok(None);
