@@ -1,12 +1,12 @@
 // Cutting bytes in two: a script at its first line feed, a line at its first space.
 ghost use Rattle.std.specs.Prelude.{◌≡◌, []};
-ghost use Rattle.std.specs.Option.{option_map, unwrap_or};
+ghost use Rattle.std.specs.Option.{option_copied, unwrap_or};
 ghost use Rattle.script.specs.Cuts.{before, behind, CutAtTheFirst};
 
 /// What stands before the first `at`, and what stands after it if there is one.
 pub fn cut(at: u8, text: &[u8]) -> (&[u8], Option<&[u8]>)
     ensures front { result.0.now ≡ before at text.now }
-    ensures back { option_map (λ x. x.now) result.1 ≡ behind at text.now }
+    ensures back { option_copied result.1 ≡ behind at text.now }
 {
     // A pair and no `split_once`, since the front is there where nothing is cut.
     match text.iter().position(|byte| *byte == at) {

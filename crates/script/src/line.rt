@@ -1,6 +1,6 @@
 // What the lines of a script say.
 ghost use Rattle.std.specs.Prelude.{◌≡◌, true, false, [], is_some, None, MatchResult};
-ghost use Rattle.std.specs.Option.{option_map, unwrap_or};
+ghost use Rattle.std.specs.Option.{option_copied, unwrap_or};
 ghost use Rattle.script.specs.declared.fault.Fault.TheVariants.{UnwantedArgument};
 ghost use Rattle.script.specs.Cuts.{blank};
 ghost use Rattle.script.specs.Words.{takes_argument};
@@ -98,7 +98,7 @@ fn line_of(word: Word, argument: Vec<u8>) -> Result<Line, Fault>
 
 // The argument as it is written.
 fn argument_text(word: Word, rest: Option<&[u8]>) -> Result<&[u8], Fault>
-    ensures cases { MatchResult result (λ text. (text.now ≡ unwrap_or (option_map (λ x. x.now) rest.entry) []) × (takes_argument word ≡ false → option_map (λ x. x.now) rest.entry ≡ None)) (λ e. (e ≡ UnwantedArgument) × (takes_argument word ≡ false) × (is_some (option_map (λ x. x.now) rest.entry) ≡ true)) }
+    ensures cases { MatchResult result (λ text. (text.now ≡ unwrap_or (option_copied rest.entry) []) × (takes_argument word ≡ false → option_copied rest.entry ≡ None)) (λ e. (e ≡ UnwantedArgument) × (takes_argument word ≡ false) × (is_some (option_copied rest.entry) ≡ true)) }
 {
     match rest {
         None => Ok(b""),
