@@ -16,10 +16,3 @@ grown-++ b s t h =
 
 pub appended-++ : (w : Mem) (s t : List ℕ) → w.stage.used + (length s + length t) ≤ length w.stage.all → appended t (appended s w) ≡ appended (s ++ t) w
 appended-++ w s t h = ap (with_stage w) (grown-++ w.stage s t h)
-
--- three pieces in a row
-pub appended_three : (w : Mem) (r s t : List ℕ) → w.stage.used + (length r + (length s + length t)) ≤ length w.stage.all → appended t (appended s (appended r w)) ≡ appended (r ++ (s ++ t)) w
-appended_three w r s t h =
-    let n = length-append s t in
-    let z : w.stage.used + length r + (length s + length t) ≤ length (laid w.stage.all w.stage.used r) = omega (arith, length-laid w.stage.all r w.stage.used (omega arith)) in
-    appended-++ (appended r w) s t z ∙ appended-++ w r (s ++ t) (omega (arith, n))

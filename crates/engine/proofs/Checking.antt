@@ -6,7 +6,7 @@ use Rattle.std.proofs.lemmas.Slice.Eq.{bytes_eq-Decides}
 use Rattle.refusal.specs.declared.Refusal.{Refusal}
 use Rattle.refusal.specs.declared.Refusal.TheVariants.{Order, Bytes as BytesAt, Shape, RunOn, Name as NameAt, Stack, Depth, Stage, Sink, Style}
 use Rattle.refusal.specs.Refusals.{number, offset}
-use Rattle.xml.specs.Text.{LongestWhole}
+use Rattle.std.specs.Str.{IsValidUpTo}
 use Rattle.xml.specs.Names.{Name, name_fault}
 use Rattle.xml.proofs.Naming.{faults_of}
 use Rattle.model.specs.Strings.{utf8, whole, whole_upto}
@@ -15,11 +15,11 @@ use Rattle.model.proofs.Spelling.{utf8_true, utf8_from}
 pub utf8_false : (bs : List ℕ) → (IsUtf8 bs → ⊥) → utf8 bs ≡ false
 utf8_false bs h = ⊎_elim (λ t. absurd (h (utf8_true bs t))) (λ f. f) (cases_Bool (utf8 bs))
 
-whole_upto_is : (bs : List ℕ) (k n : ℕ) → LongestWhole bs k → k ≤ n → whole_upto n bs ≡ k
+whole_upto_is : (bs : List ℕ) (k n : ℕ) → IsValidUpTo bs k → k ≤ n → whole_upto n bs ≡ k
 whole_upto_is bs k zero h l = omega (arith, l)
 whole_upto_is bs k (suc n) h l =
     let here : k ≡ suc n → whole_upto (suc n) bs ≡ k =
-    λ e. cond-true (utf8 (take (suc n) bs)) (suc n) (whole_upto n bs) (subst (λ i. utf8 (take i bs) ≡ true) e (utf8_from (take k bs) h.whole)) ∙ sym e in
+    λ e. cond-true (utf8 (take (suc n) bs)) (suc n) (whole_upto n bs) (subst (λ i. utf8 (take i bs) ≡ true) e (utf8_from (take k bs) h.front)) ∙ sym e in
     let below : (k ≡ suc n → ⊥) → k < suc n = λ ne. ⊎_elim (λ m. m) (λ m. absurd (ne (omega (arith, l, m)))) (cases_lt k (suc n)) in
     let later : (k ≡ suc n → ⊥) → whole_upto (suc n) bs ≡ k =
     λ ne.
@@ -27,7 +27,7 @@ whole_upto_is bs k (suc n) h l =
     ∙ whole_upto_is bs k n h (omega (arith, below ne)) in
     ⊎_elim here later (cases_eq k (suc n))
 
-pub whole_is : (bs : List ℕ) (k : ℕ) → LongestWhole bs k → whole bs ≡ k
+pub whole_is : (bs : List ℕ) (k : ℕ) → IsValidUpTo bs k → whole bs ≡ k
 whole_is bs k h = whole_upto_is bs k (length bs) h (omega (arith, h.short))
 
 pub bytes_refusal : (e : Refusal) → number e ≡ 2 → e ≡ BytesAt (offset e)

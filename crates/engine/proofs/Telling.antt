@@ -72,10 +72,6 @@ module _ (w : Mem) (room : ℕ) (c : Call) (m : State) where
   told_bytes k p q e =
       told_by (BytesAt k) (on_bytes (out_of_order c m) (ill_formed c) (misshapen c m) (runs_on c m) (misnamed c m) (stack_full (setting w) c m) (too_deep (setting w) c m) (stage_full (setting w) c m) (sink_full (setting w) room c m) (whole (string_of c)) (next w.form c m) p q ∙ ap (λ n. refuse (BytesAt n)) (sym e))
 
-  pub told_shape : out_of_order c m ≡ false → ill_formed c ≡ false → misshapen c m ≡ true → Told (verdict (setting w) room c m) (Err Shape) w w
-  told_shape p q r =
-      told_by Shape (on_shape (out_of_order c m) (ill_formed c) (misshapen c m) (runs_on c m) (misnamed c m) (stack_full (setting w) c m) (too_deep (setting w) c m) (stage_full (setting w) c m) (sink_full (setting w) room c m) (whole (string_of c)) (next w.form c m) p q r)
-
   pub told_run_on : out_of_order c m ≡ false → ill_formed c ≡ false → misshapen c m ≡ false → runs_on c m ≡ true → Told (verdict (setting w) room c m) (Err RunOn) w w
   told_run_on p q r s =
       told_by RunOn (on_text (out_of_order c m) (ill_formed c) (misshapen c m) (runs_on c m) (misnamed c m) (stack_full (setting w) c m) (too_deep (setting w) c m) (stage_full (setting w) c m) (sink_full (setting w) room c m) (whole (string_of c)) (next w.form c m) p q r s)

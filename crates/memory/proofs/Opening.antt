@@ -1,13 +1,7 @@
 -- A gap, opened and filled. Assumes nothing.
-use Rattle.std.proofs.Common.{◌≡◌, ℕ, ◌+◌, ◌-◌, ◌<◌, ◌≤◌, List, ◌++◌, length, get_or, take, drop, set, arith, rules}
-use Rattle.std.proofs.lemmas.List.{same_lists, places, get_or-set_same}
-use Rattle.std.proofs.lemmas.Bool.{cases_eq}
-use Rattle.memory.specs.Laid.{laid}
-use Rattle.memory.specs.Opened.{shifted, opened}
-
--- a gap, and then bytes of its size laid into it
-pub opened_is : (d s : List ℕ) (at used : ℕ) → at ≤ used → used + length s ≤ length d → laid (shifted d at used (length s)) at s ≡ opened d at used s
-opened_is d s at used a b = same_lists _ _ (search (rules, places)) (λ k e l. grind (arith, places))
+use Rattle.std.proofs.Common.{◌≡◌, ℕ, ◌+◌, ◌-◌, ◌≤◌, List, ◌++◌, length, take, drop, arith, rules}
+use Rattle.std.proofs.lemmas.List.{same_lists, places}
+use Rattle.memory.specs.Opened.{opened}
 
 pub length-opened : (d s : List ℕ) (at used : ℕ) → at ≤ used → used + length s ≤ length d → length (opened d at used s) ≡ length d
 length-opened d s at used a b = search (rules, places)

@@ -3,7 +3,7 @@ use Rattle.std.proofs.Common.{◌≡◌, ℕ, zero, suc, ◌<◌, ◌≤◌, Boo
 use Rattle.std.proofs.lemmas.List.{take_all}
 use Rattle.std.proofs.lemmas.Bool.{both_ways, cases_lt, cases_eq}
 use Rattle.std.proofs.lemmas.Str.{IsUtf8-nil}
-use Rattle.xml.specs.Text.{LongestWhole}
+use Rattle.std.specs.Str.{IsValidUpTo}
 use Rattle.reader.specs.Trees.{Bytes}
 use Rattle.model.specs.Strings.{utf8, whole_upto, whole}
 use Rattle.model.specs.Laws.{StringsToldApart}
@@ -33,7 +33,7 @@ strings_told_apart bs = ((utf8_true bs, utf8_from bs), longest)
     no_whole : utf8 bs ≡ false → (m : ℕ) → length bs ≤ m → IsUtf8 (take m bs) → ⊥
     no_whole e m h u = both_ways (utf8 bs) e (utf8_from bs (subst IsUtf8 (take_all m bs h) u))
 
-    longest : utf8 bs ≡ false → LongestWhole bs (whole bs)
+    longest : utf8 bs ≡ false → IsValidUpTo bs (whole bs)
     longest e =
         let g = greatest bs (length bs) in
-        record { short = ⊎_elim (λ l. l) (λ l. absurd (no_whole e (whole bs) l g.good)) (cases_lt (whole bs) (length bs)); whole = g.good; longest = λ m l u. ⊎_elim (λ q. let p : m ≤ length bs = omega arith in g.none_longer m l p u) (λ q. no_whole e m q u) (cases_lt m (length bs)) }
+        record { short = ⊎_elim (λ l. l) (λ l. absurd (no_whole e (whole bs) l g.good)) (cases_lt (whole bs) (length bs)); front = g.good; longest = λ m l u. ⊎_elim (λ q. let p : m ≤ length bs = omega arith in g.none_longer m l p u) (λ q. no_whole e m q u) (cases_lt m (length bs)) }

@@ -5,7 +5,7 @@ use Rattle.refusal.specs.declared.Refusal.{Refusal}
 use Rattle.refusal.specs.Refusals.{number}
 use Rattle.style.specs.declared.indentation.Indentation.{Indentation}
 use Rattle.style.specs.declared.style.EmptyElementHandling.{EmptyElementHandling}
-use Rattle.xml.specs.Text.{LongestWhole}
+use Rattle.std.specs.Str.{IsValidUpTo}
 use Rattle.reader.specs.Trees.{Bytes, Tree}
 use Rattle.reader.specs.Reader.{Reads}
 use Rattle.model.specs.Strings.{utf8, whole}
@@ -32,7 +32,7 @@ answers_to w cs r = answers w cs (new r)
 -- Strings: the test of the table tells well-formed bytes from all others, and for all others the offset that is told is the length of
 -- the longest beginning of whole characters
 abbrev pub StringsToldApart : Type 0
-StringsToldApart = (bs : Bytes) → Decides (utf8 bs) (IsUtf8 bs) × (utf8 bs ≡ false → LongestWhole bs (whole bs))
+StringsToldApart = (bs : Bytes) → Decides (utf8 bs) (IsUtf8 bs) × (utf8 bs ≡ false → IsValidUpTo bs (whole bs))
 
 -- no row of a table applies
 abbrev pub NoneApplies : List (Option Refusal) → Type 0

@@ -95,14 +95,3 @@ module _ (c : Value) (room : ℕ) (w v : Mem) (safe : Safe w) (fine : utf8 (valu
 
     pub only_words : (res : Result (Unit {0}) Refusal) (bs : List ℕ) → ((b : Body) → put_text b c ≡ Some (done SensitiveText (with_text b bs))) → ((b : Body) → put_simple b c ≡ Some (done SensitiveText (with_text b bs))) → Writes res bs SensitiveText (not (null bs) || w.wordy) w v → Does (call_value c) room res w v
     only_words res bs p q h = ⊎_elim (λ t. text_words t shape res bs p h) (λ s. simple_words s shape res bs q h) at
-
--- bytes that are not well-formed, at each of the three
-module _ (c : Value) (room : ℕ) (w : Mem) (e : Refusal) (bad : utf8 (value_string c) ≡ false) (is : e ≡ BytesAt (whole (value_string c))) where
-  pub content_ill_formed : (p : Bool) → w.place ≡ Content p → Does (call_value c) room (Err e) w w
-  content_ill_formed p at m lay = spots.on_content (λ x. Told (verdict (setting w) room (call_value c) x) (Err e) w w) w p m lay at (λ rs l ls y. told_ill_formed w room (call_value c) (inside (content p) rs l ls) e refl bad is)
-
--- text where the content place allows none
-pub content_run_on : (c : Value) (room : ℕ) (w : Mem) (p : Bool) → utf8 (value_string c) ≡ true → no_content c ≡ false → (is_text c && not p) ≡ true → w.place ≡ Content p → Does (call_value c) room (Err RunOn) w w
-content_run_on c room w p fine shape t at m lay =
-    spots.on_content (λ x. Told (verdict (setting w) room (call_value c) x) (Err RunOn) w w) w p m lay at
-    (λ rs l ls y. told_run_on w room (call_value c) (inside (content p) rs l ls) refl (not_from_true (utf8 (value_string c)) fine) shape t)

@@ -11,10 +11,6 @@ use Rattle.engine.specs.Memory.{indent_size}
 use Rattle.engine.specs.Lays.{Lays}
 use Rattle.writer.specs.Starting.{starting}
 
--- cut to at most n
-pub at_most : {A : Type 0} (xs : List A) (n k : ℕ) → k ≡ min (length xs) n → take k xs ≡ take n xs
-at_most xs n k e = same_lists _ _ (search (rules, places)) (λ i d h. grind (arith, places))
-
 pub narrow : (i : Option Indentation) → allowed i ≡ true → indent_size i ≤ 16
 narrow None e = omega arith
 narrow (Some i) e = leb-true i.size 16 (and_parts (eqb i.byte 9 || eqb i.byte 32) (leb i.size 16) e).1
@@ -26,6 +22,3 @@ starting_idle f i stage names frames =
       holds = record { stage = record { fits = omega arith; is = refl }; names = record { fits = omega arith; is = refl }; frames = record { fits = omega arith; is = refl }; records = refl; wordy = tt; fit = tt };
       place = refl;
     }
-
-pub same_start : (f g : EmptyElementHandling) (i j : Option Indentation) (a b d e : List ℕ) (p q : List Frame) → f ≡ g → i ≡ j → a ≡ b → d ≡ e → p ≡ q → starting f i a d p ≡ starting g j b e q
-same_start f g i j a b d e p q u v x y z = cc

@@ -1,5 +1,5 @@
 -- Pieces written one after another, a byte at a time. Assumes nothing.
-use Rattle.std.proofs.Common.{◌≡◌, ℕ, ◌+◌, ◌<◌, ◌≤◌, List, [], ◌∷◌, ◌++◌, length, get_or, take, drop, sym, ap, ◌∙◌, append-nil, arith, length-append, take-append-drop}
+use Rattle.std.proofs.Common.{◌≡◌, ℕ, ◌+◌, ◌<◌, ◌≤◌, List, [], ◌∷◌, ◌++◌, length, get_or, take, sym, ap, ◌∙◌, append-nil, arith, length-append}
 use Rattle.std.specs.List.{flat_map}
 use Rattle.std.proofs.lemmas.List.{take_more, take_all}
 use Rattle.std.proofs.lemmas.List.Folds.{length-flat_map-take}
@@ -10,12 +10,6 @@ use Rattle.memory.proofs.Laying.{laid-laid, laid_none}
 -- one more piece
 pub joined_step : (f : ℕ → List ℕ) (xs : List ℕ) (i d : ℕ) → i < length xs → flat_map f (take (i + 1) xs) ≡ flat_map f (take i xs) ++ f (get_or xs i d)
 joined_step f xs i d h = ap (flat_map f) (take_more xs i d h) ∙ flat_map-append f (take i xs) (get_or xs i d ∷ []) ∙ ap (λ l. flat_map f (take i xs) ++ l) (append-nil (f (get_or xs i d)))
-
--- the pieces so far are no longer than all
-pub joined_front : (f : ℕ → List ℕ) (xs : List ℕ) (i : ℕ) → length (flat_map f (take i xs)) ≤ length (flat_map f xs)
-joined_front f xs i =
-    let e : flat_map f xs ≡ flat_map f (take i xs) ++ flat_map f (drop i xs) = ap (flat_map f) (sym (take-append-drop i xs)) ∙ flat_map-append f (take i xs) (drop i xs) in
-    omega (arith, ap length e, length-append (flat_map f (take i xs)) (flat_map f (drop i xs)))
 
 -- the pieces of the first i bytes stand in `out` from `at` up to `end`; before the first, out was d
 abbrev pub Sofar : (ℕ → List ℕ) → List ℕ → ℕ → List ℕ → ℕ → ℕ → List ℕ → Type 0

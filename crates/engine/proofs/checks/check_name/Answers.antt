@@ -9,5 +9,5 @@ pub returns : goal.returns
 returns c =
     let n = c.args.name.now in
     let same = c.in_ok-well_formed.ensures.cases.0 in
-    let is = c.in_ok-try_from.ensures.cases.1 in
+    let is = c.in_ok-try_from.ensures.1 in
     record { checked = name_faultless n (subst (λ x. Name x) same is) (utf8_true n c.requires) }
