@@ -1,8 +1,8 @@
 -- Bytes appended one after another are bytes appended at once. Assumes nothing.
-use Rattle.std.proofs.Common.{◌≡◌, ℕ, ◌+◌, ◌≤◌, List, [], ◌++◌, length, sym, ap, ◌∙◌, arith}
+use Rattle.std.proofs.Common.{◌≡◌, ℕ, ◌+◌, ◌≤◌, List, ◌++◌, length, ap, arith}
 use Rattle.std.proofs.lemmas.List.{length-append}
 use Rattle.memory.specs.Laid.{laid}
-use Rattle.memory.proofs.Laying.{laid-laid, laid_none, length-laid}
+use Rattle.memory.proofs.Laying.{laid-laid}
 use Rattle.engine.specs.Memory.{Buf, Mem, grown, with_stage, appended}
 
 pub same_buf : {A : Type 0} (l m : List A) (u v : ℕ) → l ≡ m → u ≡ v → ◌≡◌ {A = Buf A} (record { all = l; used = u }) (record { all = m; used = v })

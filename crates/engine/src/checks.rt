@@ -15,7 +15,7 @@ pub fn check_bytes(bytes: &[u8]) -> Result<(), Refusal>
     Ok(())
 }
 
-/// Whether well-formed bytes are a name.
+/// Whether well-formed bytes are a name. They are bytes and no `&str`, since the name behind an '@' is a part of a key's bytes.
 pub fn check_name(name: &[u8]) -> Result<(), Refusal>
     requires { utf8 name.now ≡ true }
     ensures checked { CheckedName result name.now }

@@ -1,17 +1,16 @@
 -- Values at the element place: an empty element, or a text between tags. Assumes nothing.
-use Rattle.std.proofs.Common.{◌≡◌, ℕ, suc, Bool, true, false, cond, List, [], ◌∷◌, length, Some, Err, Result, sym, refl, ap, ◌∙◌, subst, arith}
+use Rattle.std.proofs.Common.{◌≡◌, ℕ, suc, Bool, true, false, cond, List, [], ◌∷◌, length, Some, Result, sym, refl, ap, ◌∙◌, subst, arith}
 use Rattle.refusal.specs.declared.Refusal.{Refusal}
-use Rattle.refusal.specs.declared.Refusal.TheVariants.{Bytes as BytesAt}
 use Rattle.style.specs.declared.result.WriteResult.TheVariants.{Element as element_result}
 use Rattle.style.specs.declared.style.EmptyElementHandling.{EmptyElementHandling}
 use Rattle.xml.specs.declared.escape.Use.{Use}
 use Rattle.xml.specs.declared.escape.Use.TheVariants.{Text as text_use}
 use Rattle.xml.specs.Escaping.{escaped}
 use Rattle.model.specs.declared.place.Place.TheVariants.{Element}
-use Rattle.model.specs.Strings.{utf8, whole}
+use Rattle.model.specs.Strings.{utf8}
 use Rattle.model.specs.Calls.{Rule, Value, val_text, val_variant, call_value, is_text_name}
 use Rattle.model.specs.Marks.{empty_element, text_element}
-use Rattle.model.specs.Model.{Body, Row, element, inside, child_start}
+use Rattle.model.specs.Model.{Body, Row, element, child_start}
 use Rattle.model.specs.Step.{put_element, empty_child, text_child}
 use Rattle.model.specs.Grounds.{no_element, value_string}
 use Rattle.model.specs.Table.{verdict, value_opens}
@@ -20,7 +19,7 @@ use Rattle.engine.specs.Lays.{setting, Told, Does}
 use Rattle.engine.proofs.Spots.{on_element}
 use Rattle.rows.specs.Pieces.{Writes, name_of, empty_bytes, text_bytes}
 use Rattle.rows.proofs.Tagging.{name_is, empty_is, text_is}
-use Rattle.rows.proofs.Told.{told_ill_formed, element_told}
+use Rattle.rows.proofs.Told.{element_told}
 
 module _ (c : Value) (room from : ℕ) (w v : Mem) (res : Result (Unit {0}) Refusal) (at : w.place ≡ Element from) (safe : Safe w) where
   pub element_empty : utf8 (value_string c) ≡ true → no_element c ≡ false → value_opens c ≡ false → ((f : EmptyElementHandling) (d : ℕ) (rs : List Row) (b : Body) (u n : List ℕ) → put_element f d rs b u n c ≡ Some (empty_child f d rs b n)) → Writes res (empty_bytes w (name_of w from)) element_result false w v → Does (call_value c) room res w v

@@ -1,33 +1,28 @@
 -- The first call on a record, and the one that drops it. Assumes nothing.
-use Rattle.std.proofs.Common.{◌≡◌, ℕ, ◌+◌, ◌<◌, ◌≤◌, true, false, not, List, [], ◌∷◌, ◌++◌, length, Some, None, Ok, Err, Option, Result, sym, refl, ap, ◌∙◌, subst, ⊎_elim, arith}
+use Rattle.std.proofs.Common.{◌≡◌, ℕ, ◌+◌, ◌<◌, ◌≤◌, true, false, not, List, [], ◌∷◌, ◌++◌, length, None, Ok, Err, Option, Result, sym, refl, ap, ◌∙◌, subst, ⊎_elim, arith}
 use Rattle.std.proofs.lemmas.List.{append-nil}
 use Rattle.std.proofs.lemmas.Bool.{not_from_true}
 use Rattle.refusal.specs.declared.Refusal.{Refusal}
-use Rattle.refusal.specs.declared.Refusal.TheVariants.{Order, Bytes as BytesAt, Name as NameAt}
-use Rattle.refusal.specs.Refusals.{offset}
 use Rattle.style.specs.declared.indentation.Indentation.{Indentation}
 use Rattle.style.specs.declared.style.EmptyElementHandling.{EmptyElementHandling}
 use Rattle.xml.specs.Names.{name_fault}
-use Rattle.style.specs.declared.result.WriteResult.TheVariants.{Element as element_result}
 use Rattle.model.specs.declared.place.Place.{Place}
 use Rattle.model.specs.declared.place.Place.TheVariants.{Idle, Field, Element, Content, Text, Simple, Attribute, TextItem, AttributeItem, Complete}
-use Rattle.model.specs.declared.frame.Kind.TheVariants.{Record as record_kind}
 use Rattle.model.specs.declared.frame.Frame.{Frame}
-use Rattle.model.specs.Strings.{utf8, whole}
+use Rattle.model.specs.Strings.{utf8}
 use Rattle.model.specs.Calls.{call_open, call_abandon}
 use Rattle.model.specs.Model.{State, idle, between, inside, quote, complete}
 use Rattle.model.specs.Step.{new_level}
 use Rattle.model.specs.Layout.{stage, record_frame}
 use Rattle.model.specs.Grounds.{is_idle, sort, out_of_order}
 use Rattle.model.specs.Table.{verdict, next}
-use Rattle.engine.specs.Memory.{Mem, Safe, emptied, appended, name_put, pushed, placed, worded, counted}
-use Rattle.engine.proofs.Appending.{appended-++}
+use Rattle.engine.specs.Memory.{Mem, Safe, emptied}
 use Rattle.engine.specs.Lays.{Lays, Beyond, setting, Told, Does}
 use Rattle.engine.proofs.Fronts.{front_length, front_as, front_grown, front_push, past_cut, past_grown, past_set}
 use Rattle.engine.proofs.Spots.{on_idle}
-use Rattle.engine.proofs.Telling.{Clear, told_order, told_name, told_stack, told_depth, told_stage, told_ok, told_small, depth_is_free, sink_unasked}
+use Rattle.engine.proofs.Telling.{Clear, told_stack, told_depth, told_stage, told_ok, told_small, depth_is_free, sink_unasked}
 use Rattle.rows.specs.Roots.{root_frame, entered, Opens}
-use Rattle.rows.proofs.Told.{well_formed_none, told_ill_formed}
+use Rattle.rows.proofs.Told.{well_formed_none}
 
 abandon_next : (f : EmptyElementHandling) (m : State) → next f call_abandon m ≡ idle
 abandon_next f idle = refl

@@ -1,13 +1,12 @@
 -- Values at the content, text and simple places that write a text or nothing. Assumes nothing.
-use Rattle.std.proofs.Common.{◌≡◌, ℕ, suc, Bool, true, false, not, ◌&&◌, ◌||◌, eqb, ◌⊎◌, List, [], ◌∷◌, length, Some, None, Ok, Err, Result, sym, refl, ap, subst, ⊎_elim, arith}
+use Rattle.std.proofs.Common.{◌≡◌, ℕ, suc, Bool, true, false, not, ◌&&◌, ◌||◌, eqb, ◌⊎◌, List, [], ◌∷◌, length, Some, None, Ok, Result, sym, refl, ap, subst, ⊎_elim, arith}
 use Rattle.std.proofs.lemmas.Bool.{eqb-true, not_from_true, and_right}
 use Rattle.std.proofs.lemmas.List.{append-nil}
 use Rattle.refusal.specs.declared.Refusal.{Refusal}
-use Rattle.refusal.specs.declared.Refusal.TheVariants.{Bytes as BytesAt, RunOn}
 use Rattle.style.specs.declared.result.WriteResult.{WriteResult}
 use Rattle.style.specs.declared.result.WriteResult.TheVariants.{SensitiveText}
 use Rattle.model.specs.declared.place.Place.TheVariants.{Content, Text, Simple}
-use Rattle.model.specs.Strings.{null, utf8, whole}
+use Rattle.model.specs.Strings.{null, utf8}
 use Rattle.model.specs.Calls.{Value, call_value}
 use Rattle.model.specs.Marks.{texted}
 use Rattle.model.specs.Model.{Body, Level, Row, Outer, Spot, content, text_spot, simple, inside, stack}
@@ -20,9 +19,9 @@ use Rattle.engine.specs.Memory.{Mem, Safe, settled}
 use Rattle.engine.specs.Lays.{Lays, setting, Told, Does}
 use Rattle.engine.proofs.Spots as spots
 use Rattle.engine.proofs.Values.{value_silent}
-use Rattle.engine.proofs.Telling.{Clear, Small, told_run_on}
+use Rattle.engine.proofs.Telling.{Clear, Small}
 use Rattle.rows.specs.Pieces.{Writes}
-use Rattle.rows.proofs.Told.{told_ill_formed, spot_told}
+use Rattle.rows.proofs.Told.{spot_told}
 
 -- a text that is allowed, or empty
 pub may_stand : (s : List ℕ) (p : Bool) → (p || eqb (length s) 0) ≡ true → (not (null s) && not p) ≡ false

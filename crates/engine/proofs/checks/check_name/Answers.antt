@@ -1,8 +1,7 @@
-use Rattle.std.proofs.Common.{sym, ap, ◌∙◌, subst}
-use Rattle.std.proofs.lemmas.Result.{err_from_is_err_and}
-use Rattle.xml.specs.Names.{Name, name_fault}
+use Rattle.std.proofs.Common.{subst}
+use Rattle.xml.specs.Names.{Name}
 use Rattle.model.proofs.Spelling.{utf8_true}
-use Rattle.engine.proofs.Checking.{name_faultless, name_refusal}
+use Rattle.engine.proofs.Checking.{name_faultless}
 use Rattle.engine.proofs.checks.check_name.Goals as goal
 
 pub returns : goal.returns
