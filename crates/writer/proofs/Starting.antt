@@ -1,6 +1,5 @@
 -- A new writer: the first part of each slice that the caller lends, and nothing in use. Assumes nothing.
-use Rattle.std.proofs.Common.{◌≡◌, ℕ, ◌≤◌, min, true, ◌||◌, eqb, leb, List, length, take, Some, None, Option, refl, arith, rules}
-use Rattle.std.proofs.lemmas.List.{same_lists, places}
+use Rattle.std.proofs.Common.{◌≡◌, ℕ, ◌≤◌, true, ◌||◌, eqb, leb, List, Some, None, Option, refl, arith}
 use Rattle.std.proofs.lemmas.Bool.{leb-true, and_parts}
 use Rattle.style.specs.declared.indentation.Indentation.{Indentation}
 use Rattle.style.specs.declared.style.EmptyElementHandling.{EmptyElementHandling}
