@@ -18,7 +18,7 @@ pub enum Kind {
     List,
 }
 
-/// One open thing.
+/// One open thing. One struct for every kind, since the frames are a table that the caller lends.
 #[derive(Clone, Copy, PartialEq, Eq, Debug)]
 pub struct Frame {
     pub kind: Kind,

@@ -1,4 +1,5 @@
-// The meaning of records: what each call does, what it says, and the laws of whole runs.
+// The meaning of records: what each call does, what it says, and the laws of whole runs. Each law is the contract of a function
+// of its own, since a contract is what names a theorem; no code runs in them.
 #![tactic(auto)]
 
 ghost use Rattle.model.specs.Sheets.{TenSheets};

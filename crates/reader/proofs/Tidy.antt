@@ -39,6 +39,11 @@ tidy-⧺ done ms = refl
 tidy-⧺ (text s ns) ms = ap (before s) (tidy-⧺ ns ms) ∙ rw before-⊕
 tidy-⧺ (elem n at ks ns) ms = ap (elem n at ks) (tidy-⧺ ns ms)
 
+pub ⧺_assoc : (ls ns ms : Nodes) → (ls ⧺ ns) ⧺ ms ≡ ls ⧺ (ns ⧺ ms)
+⧺_assoc done ns ms = refl
+⧺_assoc (text s ls) ns ms = ap (text s) (⧺_assoc ls ns ms)
+⧺_assoc (elem n at ks ls) ns ms = ap (elem n at ks) (⧺_assoc ls ns ms)
+
 -- behind a tidy row nothing more changes nothing
 pub tidy-⊕_done : (ns : Nodes) → tidy ns ⊕ done ≡ tidy ns
 tidy-⊕_done done = refl

@@ -23,7 +23,7 @@ pub struct Sizes {
     pub frames: usize,
 }
 
-/// What `sink` says.
+/// What `sink` says. Two kinds by name, and no Option: a number alone would not say what it sizes.
 #[derive(Clone, Copy, PartialEq, Eq, Debug)]
 pub enum SinkChoice {
     /// a buffer of so many bytes

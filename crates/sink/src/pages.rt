@@ -44,6 +44,7 @@ impl Pages {
         ensures front { take result (flat self.new.pages) ≡ take from (flat self.old.pages) ++ src.now }
         ensures len { length (flat self.new.pages) ≡ 4096 }
     {
+        // Byte by byte, since a page is stored to by its own call.
         for (i, byte) in src.iter().enumerate() {
             self.store(from + i, *byte);
         }

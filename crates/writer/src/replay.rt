@@ -55,7 +55,8 @@ fn serve<R: EscapeRule, S: Sink>(
     }
 }
 
-// Runs the calls one after another, and stores each answer.
+// Runs the calls one after another, and stores each answer at its call's place: the answers are made before the first call,
+// so that no run stops for want of memory.
 fn serve_all<R: EscapeRule, S: Sink>(
     writer: &mut Writer<'_>,
     sink: &mut S,

@@ -19,7 +19,7 @@ use sink::Sink;
 use xml::{EscapeRule, QuoteLevel};
 
 impl Writer<'_> {
-    // A value that brings no rule.
+    // A value that brings no rule. Each kind has a call of its own below, as a user names it.
     fn plain(&mut self, value: Value<'_, QuoteLevel>) -> Result<(), Refusal>
         ensures does { (room : ℕ) (v : meant.Value) → ValueIs level_chooses value.entry v → Does (call_value v) room result (mem self.old.core) (mem self.new.core) }
     {
