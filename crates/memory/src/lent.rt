@@ -61,6 +61,7 @@ impl<T: Copy> Lent<'_, T> {
         requires { self.old.used < length self.old.at.now }
         ensures all { self.new.at.now ≡ slice_set self.old.at.now self.old.used item }
         ensures used { self.new.used ≡ self.old.used + 1 }
+        ensures len { length self.new.at.now ≡ length self.old.at.now }
     {
         self.at[self.used] = item;
         self.used += 1;
@@ -91,6 +92,8 @@ impl Lent<'_, u8> {
         requires { self.old.used + length (P.bytes piece.now) ≤ length self.old.at.now }
         ensures all { self.new.at.now ≡ laid self.old.at.now self.old.used (P.bytes piece.now) }
         ensures used { self.new.used ≡ self.old.used + length (P.bytes piece.now) }
+        ensures front { take self.new.used self.new.at.now ≡ take self.old.used self.old.at.now ++ P.bytes piece.now }
+        ensures len { length self.new.at.now ≡ length self.old.at.now }
     {
         self.used = piece.lay(self.at, self.used);
     }
@@ -102,6 +105,7 @@ impl Lent<'_, u8> {
         ensures end { result ≡ at + length (P.bytes piece.now) }
         ensures all { self.new.at.now ≡ opened self.old.at.now at self.old.used (P.bytes piece.now) }
         ensures used { self.new.used ≡ self.old.used + length (P.bytes piece.now) }
+        ensures len { length self.new.at.now ≡ length self.old.at.now }
     {
         self.used = shift(self.at, at, self.used, piece.size());
         piece.lay(self.at, at)
