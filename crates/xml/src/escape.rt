@@ -6,7 +6,7 @@ ghost use Rattle.xml.specs.Back.{Writes, Escapes};
 ghost use Rattle.memory.specs.Laid.{laid};
 ghost use Rattle.xml.specs.Levels.{level_within, level_enough};
 
-use memory::{Piece, lay};
+use memory::Piece;
 use refusal::Refusal;
 
 /// What a string is written for.
@@ -131,27 +131,14 @@ pub struct Escaped<'a, R> {
 }
 
 impl<R: EscapeRule> Escaped<'_, R> {
-    // How many bytes a byte of it takes.
-    fn byte_len(&self, byte: u8) -> usize
-        ensures { result ≡ length (piece (R.chooses self.now.rule.now self.now.target) byte) }
+    // A byte of it: what replaces it, or else the byte itself.
+    fn piece(&self, byte: u8) -> (Option<&'static [u8]>, Option<[u8; 1]>)
+        ensures { ⟦<(Option<&'static [u8]>, Option<[u8; 1]>) as Piece>⟧.bytes result ≡ piece (R.chooses self.now.rule.now self.now.target) byte }
     {
         if self.rule.replaces(self.target, byte) {
-            replacement_of(byte).len()
+            (Some(replacement_of(byte)), None)
         } else {
-            1
-        }
-    }
-
-    // Lays a byte of it, as it is or replaced.
-    fn lay_byte(&self, out: &mut [u8], at: usize, byte: u8) -> usize
-        requires { at + length (piece (R.chooses self.now.rule.now self.now.target) byte) ≤ length out.old }
-        ensures end { result ≡ at + length (piece (R.chooses self.now.rule.now self.now.target) byte) }
-        ensures bytes { out.new ≡ laid out.old at (piece (R.chooses self.now.rule.now self.now.target) byte) }
-    {
-        if self.rule.replaces(self.target, byte) {
-            lay(out, at, replacement_of(byte))
-        } else {
-            lay(out, at, &[byte])
+            (None, Some([byte]))
         }
     }
 }
@@ -162,7 +149,7 @@ impl<R: EscapeRule> Piece for Escaped<'_, R> {
     fn size(&self) -> usize {
         let mut len: usize = 0;
         for byte in self.value {
-            len = len.saturating_add(self.byte_len(*byte));
+            len = len.saturating_add(self.piece(*byte).size());
         }
         len
     }
@@ -170,7 +157,7 @@ impl<R: EscapeRule> Piece for Escaped<'_, R> {
     fn lay(&self, out: &mut [u8], at: usize) -> usize {
         let mut end = at;
         for byte in self.value {
-            end = self.lay_byte(out, end, *byte);
+            end = self.piece(*byte).lay(out, end);
         }
         end
     }

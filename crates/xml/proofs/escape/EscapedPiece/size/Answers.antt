@@ -13,7 +13,7 @@ loop-byte-preserved g c =
     let more : length (escaped chosen (take (i + 1) xs)) ≡ length (escaped chosen (take i xs)) + length (piece chosen byte) =
     ap length (joined_step (piece chosen) xs i 0 c.loop-byte-test.true) ∙ length-append (escaped chosen (take i xs)) (piece chosen byte) in
     let before : c.loop-byte.len ≡ min (length (escaped chosen (take i xs))) (2 ^ 64 - 1) = c.loop-byte.invariant in
-    let this : c.byte_len.result ≡ length (piece chosen byte) = c.byte_len.ensures in
+    let this : c.size.result ≡ min (length (piece chosen byte)) (2 ^ 64 - 1) = rw c.piece.ensures at c.size.ensures.value in
     omega (arith, more, before, this, c.saturating_add-len.ensures)
 
 pub returns : goal.returns
