@@ -68,7 +68,7 @@ pub fn none_as_words(core: &mut Core<'_>) -> Result<(), Refusal>
     requires place { (core.old.place ≡ TextPlace) ⊎ (core.old.place ≡ SimplePlace) }
     ensures does { (room : ℕ) → Does (call_value val_none) room result (mem core.old) (mem core.new) }
 {
-    core.settle(WriteResult::SensitiveText);
+    core.settle(WriteResult::SensitiveText); // no bytes, and a text all the same
     Ok(())
 }
 
