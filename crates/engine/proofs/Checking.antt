@@ -1,14 +1,13 @@
--- The library's answers on bytes and names are those of the model's tests. Assumes nothing.
-use Rattle.std.proofs.Common.{◌≡◌, ℕ, zero, suc, ◌<◌, ◌≤◌, true, false, List, length, take, Some, None, IsUtf8, Option, sym, refl, ◌∙◌, subst, ⊎_elim, arith}
+-- The library's answers on bytes are those of the model's tests. Assumes nothing.
+use Rattle.std.proofs.Common.{◌≡◌, ℕ, zero, suc, ◌<◌, ◌≤◌, true, false, List, length, take, Ok, Err, Result, MatchResult, IsUtf8, sym, refl, ap, ◌∙◌, subst, ⊎_elim, arith}
 use Rattle.std.proofs.lemmas.Bool.{cases_Bool, cases_eq, cases_lt, cond-true, cond-false}
 use Rattle.refusal.specs.declared.Refusal.{Refusal}
 use Rattle.refusal.specs.declared.Refusal.TheVariants.{Order, Bytes as BytesAt, Shape, RunOn, Name as NameAt, Stack, Depth, Stage, Sink, Style}
 use Rattle.refusal.specs.Refusals.{number, offset}
 use Rattle.std.specs.Str.{IsValidUpTo}
-use Rattle.xml.specs.Names.{Name, name_fault}
-use Rattle.xml.proofs.Naming.{faults_of}
 use Rattle.model.specs.Strings.{utf8, whole, whole_upto}
 use Rattle.model.proofs.Spelling.{utf8_true, utf8_from}
+use Rattle.engine.specs.Checks.{CheckedBytes}
 
 pub utf8_false : (bs : List ℕ) → (IsUtf8 bs → ⊥) → utf8 bs ≡ false
 utf8_false bs h = ⊎_elim (λ t. absurd (h (utf8_true bs t))) (λ f. f) (cases_Bool (utf8 bs))
@@ -40,22 +39,7 @@ bytes_refusal Stage h = absurd (omega (arith, h))
 bytes_refusal Sink h = absurd (omega (arith, h))
 bytes_refusal Style h = absurd (omega (arith, h))
 
-pub name_refusal : (e : Refusal) → number e ≡ 5 → e ≡ NameAt (offset e)
-name_refusal Order h = absurd (omega (arith, h))
-name_refusal (BytesAt k) h = absurd (omega (arith, h))
-name_refusal Shape h = absurd (omega (arith, h))
-name_refusal RunOn h = absurd (omega (arith, h))
-name_refusal (NameAt k) h = refl
-name_refusal Stack h = absurd (omega (arith, h))
-name_refusal Depth h = absurd (omega (arith, h))
-name_refusal Stage h = absurd (omega (arith, h))
-name_refusal Sink h = absurd (omega (arith, h))
-name_refusal Style h = absurd (omega (arith, h))
-
--- a name has no fault
-pub name_faultless : (n : List ℕ) → Name n → IsUtf8 n → name_fault n ≡ None
-name_faultless n is u = go (name_fault n) refl
-  where
-    go : (r : Option ℕ) → name_fault n ≡ r → name_fault n ≡ None
-    go None e = e
-    go (Some k) e = absurd ((faults_of n u (Some k) (sym e)).1 is)
+-- what the library answers on a call's bytes
+pub checked_bytes : {A : Type 0} (P : A → Type 0) (r : Result A Refusal) (bs : List ℕ) → MatchResult r (λ s. P s × IsUtf8 bs) (λ e. (number e ≡ 2) × (IsUtf8 bs → ⊥) × IsValidUpTo bs (offset e)) → CheckedBytes r bs
+checked_bytes P (Ok s) bs h = utf8_from bs h.1
+checked_bytes P (Err e) bs h = (utf8_false bs h.1, bytes_refusal e h.0 ∙ ap (λ k. BytesAt k) (sym (whole_is bs (offset e) h.2)))

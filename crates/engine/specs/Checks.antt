@@ -7,7 +7,7 @@ use Rattle.xml.specs.Names.{name_fault}
 use Rattle.model.specs.Strings.{utf8, whole}
 
 -- the bytes are well-formed, or refused with the length of their longest beginning of whole characters
-abbrev pub CheckedBytes : Result (Unit {0}) Refusal → List ℕ → Type 0
+abbrev pub CheckedBytes : {A : Type 0} → Result A Refusal → List ℕ → Type 0
 CheckedBytes (Ok x) bs = utf8 bs ≡ true
 CheckedBytes (Err e) bs = (utf8 bs ≡ false) × (e ≡ BytesAt (whole bs))
 

@@ -1,26 +1,24 @@
 // The checks of the bytes that a call brings.
-ghost use Rattle.std.specs.Prelude.{◌≡◌, true};
-ghost use Rattle.model.specs.Strings.{utf8};
+ghost use Rattle.std.specs.Prelude.{◌≡◌, IfOk};
 ghost use Rattle.model.specs.Calls.{is_text_name, is_value_name};
 ghost use Rattle.engine.specs.Checks.{CheckedBytes, CheckedName};
 
 use refusal::Refusal;
 use xml::{XmlName, well_formed};
 
-/// Whether the bytes are well-formed UTF-8.
-pub fn check_bytes(bytes: &[u8]) -> Result<(), Refusal>
+/// The text that the bytes are, if they are well-formed UTF-8.
+pub fn check_bytes(bytes: &[u8]) -> Result<&str, Refusal>
+    ensures same { IfOk result (λ text. text.now ≡ bytes.now) }
     ensures checked { CheckedBytes result bytes.now }
 {
-    well_formed(bytes)?;
-    Ok(())
+    well_formed(bytes)
 }
 
-/// Whether well-formed bytes are a name. They are bytes and no `&str`, since the name behind an '@' is a part of a key's bytes.
-pub fn check_name(name: &[u8]) -> Result<(), Refusal>
-    requires { utf8 name.now ≡ true }
+/// Whether this text is a name.
+pub fn check_name(name: &str) -> Result<(), Refusal>
     ensures checked { CheckedName result name.now }
 {
-    XmlName::try_from(well_formed(name)?)?;
+    XmlName::try_from(name)?;
     Ok(())
 }
 

@@ -1,7 +1,9 @@
 -- A field begins whose value is an attribute: its name stands at the end of the open tag. Assumes nothing.
-use Rattle.std.proofs.Common.{◌≡◌, ℕ, ◌+◌, ◌-◌, ◌≤◌, true, List, [], ◌∷◌, ◌++◌, length, Some, None, Ok, sym, refl, ap, subst, arith}
+use Rattle.std.proofs.Common.{◌≡◌, ℕ, ◌+◌, ◌-◌, ◌≤◌, true, List, [], ◌∷◌, ◌++◌, length, get_or, take, drop, Some, None, Ok, IsUtf8, rules, sym, refl, ap, subst, arith}
 use lib.Utf8.{encodes}
+use Rattle.std.proofs.lemmas.Grind.{common_steps}
 use Rattle.std.proofs.lemmas.List.{length-append, length_push}
+use Rattle.std.proofs.lemmas.Str.{IsUtf8-append, IsUtf8-from_ascii}
 use Rattle.xml.specs.Names.{name_fault}
 use Rattle.xml.proofs.Naming.{faults_of}
 use Rattle.model.specs.declared.place.Place.TheVariants.{Field, Attribute}
@@ -24,10 +26,22 @@ use Rattle.fields.proofs.ChildKeys.{key_clear}
 pub behind_at : (n : List ℕ) → utf8 (64 ∷ n) ≡ true → utf8 n ≡ true
 behind_at n h = utf8_from n (well_formed_key (64 ∷ n) (utf8_true (64 ∷ n) h))
 
+-- the key apart: its '@' and what follows
+apart : (k : List ℕ) → 1 ≤ length k → get_or k 0 0 ≡ 64 → k ≡ 64 ∷ take (length k - 1) (drop 1 k)
+apart [] h e = absurd (omega (arith, h))
+apart (b ∷ bs) h e = grind (arith, common_steps)
+
+pub behind_key : (k : List ℕ) → utf8 k ≡ true → 1 ≤ length k → get_or k 0 0 ≡ 64 → utf8 (take (length k - 1) (drop 1 k)) ≡ true
+behind_key k u h e = behind_at (take (length k - 1) (drop 1 k)) (subst (λ x. utf8 x ≡ true) (apart k h e) u)
+
+-- so is an '@' and what is well-formed
+pub at_before : (n : List ℕ) → IsUtf8 n → utf8 (64 ∷ n) ≡ true
+at_before n u = utf8_from (64 ∷ n) (IsUtf8-append (64 ∷ []) n (IsUtf8-from_ascii (64 ∷ []) (search rules)) u)
+
 -- a fault lies within the bytes, or at their end
-pub fault_within : (n : List ℕ) (k : ℕ) → utf8 n ≡ true → name_fault n ≡ Some k → k ≤ length n
+pub fault_within : (n : List ℕ) (k : ℕ) → IsUtf8 n → name_fault n ≡ Some k → k ≤ length n
 fault_within n k u e =
-    let f = (faults_of n (utf8_true n u) (Some k) (sym e)).0 in
+    let f = (faults_of n u (Some k) (sym e)).0 in
     omega (arith, f.offset, ap length f.spelt, length-append (encodes f.front) f.here)
 
 -- the record's frame stands on top, and its tag is open

@@ -1,8 +1,10 @@
 -- A field begins whose value goes among the children. Assumes nothing.
-use Rattle.std.proofs.Common.{◌≡◌, ℕ, ◌+◌, ◌≤◌, true, false, cond, List, [], ◌∷◌, ◌++◌, length, None, Ok, sym, refl, ap, ◌∙◌, subst, arith}
+use Rattle.std.proofs.Common.{◌≡◌, ℕ, ◌+◌, ◌<◌, ◌≤◌, true, false, cond, List, [], ◌∷◌, ◌++◌, length, None, Ok, Err, sym, refl, ap, ◌∙◌, subst, arith}
+use Rattle.std.proofs.lemmas.Grind.{common_steps}
 use Rattle.std.proofs.lemmas.Bool.{not_from_true, ne_eqb}
+use Rattle.refusal.specs.declared.Refusal.TheVariants.{Stack}
 use Rattle.xml.specs.Names.{name_fault}
-use Rattle.model.specs.declared.place.Place.TheVariants.{Field, Element}
+use Rattle.model.specs.declared.place.Place.TheVariants.{Field, Element, Content, Text}
 use Rattle.model.specs.Strings.{utf8}
 use Rattle.model.specs.Calls.{key_attribute, key_text, key_value, key_element, key, is_text_name, is_value_name, call_field}
 use Rattle.model.specs.Model.{Level, Outer, element, between, inside, stack}
@@ -34,6 +36,17 @@ plain_key (b ∷ bs) h =
     ap (λ t. cond t (key_attribute bs) (cond (is_text_name (b ∷ bs)) key_text (cond (is_value_name (b ∷ bs)) key_value (key_element (b ∷ bs))))) (ne_eqb b 64 (λ e. h bs (ap (λ x. x ∷ bs) e)))
 
 module _ (k : List ℕ) (room : ℕ) (w : Mem) (safe : Safe w) (at : w.place ≡ Field) (fine : utf8 k ≡ true) (plain : (rest : List ℕ) → k ≡ 64 ∷ rest → ⊥) where
+  -- the two key words
+  pub text_key : is_text_name k ≡ true → Does (call_field k) room (Ok tt) w (placed Text w)
+  text_key t = grind (arith, common_steps)
+
+  pub value_key : is_text_name k ≡ false → is_value_name k ≡ true → Does (call_field k) room (Ok tt) w (placed (Content true) w)
+  value_key t v = grind (arith, common_steps)
+
+  -- a name for which there is no room
+  pub key_full : is_text_name k ≡ false → is_value_name k ≡ false → name_fault k ≡ None → length w.names.all < w.names.used + length k → Does (call_field k) room (Err Stack) w w
+  key_full t v f full = grind (arith, common_steps)
+
   -- neither of the two key words: the name of an element
   pub element_key : is_text_name k ≡ false → is_value_name k ≡ false → name_fault k ≡ None → (u : Mem) → w.names.used + length k ≤ length w.names.all → u ≡ name_put k w → Does (call_field k) room (Ok tt) w (placed (Element w.names.used) u)
   element_key t v f u fits is m lay =

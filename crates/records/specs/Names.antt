@@ -1,5 +1,5 @@
 -- What steps that bring a name or open a record answer, and the memory once a record is open. Assumes nothing.
-use Rattle.std.specs.Prelude.{◌≡◌, ℕ, ◌+◌, ◌<◌, ◌≤◌, Bool, true, false, ◌⊎◌, List, length, Some, None, Ok, Err, Result}
+use Rattle.std.specs.Prelude.{◌≡◌, ℕ, ◌+◌, ◌<◌, ◌≤◌, Bool, true, false, ◌⊎◌, List, length, Option, Some, None, Ok, Err, Result}
 use Rattle.refusal.specs.declared.Refusal.{Refusal}
 use Rattle.refusal.specs.declared.Refusal.TheVariants.{Name as NameAt, Stack, RunOn}
 use Rattle.refusal.specs.Refusals.{offset}
@@ -18,10 +18,12 @@ Named (Err e) n w =
     ((name_fault n ≡ Some (offset e)) × (e ≡ NameAt (offset e)))
     ⊎ ((name_fault n ≡ None) × (e ≡ Stack) × (length w.names.all < w.names.used + length n))
 
--- whether well-formed bytes announce a text, and that it may stand where it does; or they are not well-formed, or it may not
-abbrev pub TextAnnounced : Result Bool Refusal → List ℕ → Bool → Type 0
-TextAnnounced (Ok t) n p = (utf8 n ≡ true) × (t ≡ is_text_name n) × (t ≡ true → p ≡ true)
-TextAnnounced (Err e) n p = CheckedBytes (Err e) n ⊎ ((e ≡ RunOn) × (utf8 n ≡ true) × (is_text_name n ≡ true) × (p ≡ false))
+-- well-formed bytes are the name of an element, which has them, or announce a text, and it may stand where it does; or they are
+-- not well-formed, or it may not
+abbrev pub TextAnnounced : {A : Type 0} → (A → List ℕ) → Result (Option A) Refusal → List ℕ → Bool → Type 0
+TextAnnounced bytes (Ok (Some x)) n p = (utf8 n ≡ true) × (is_text_name n ≡ false) × (bytes x ≡ n)
+TextAnnounced bytes (Ok None) n p = (utf8 n ≡ true) × (is_text_name n ≡ true) × (p ≡ true)
+TextAnnounced {A = A} bytes (Err e) n p = CheckedBytes {A = A} (Err e) n ⊎ ((e ≡ RunOn) × (utf8 n ≡ true) × (is_text_name n ≡ true) × (p ≡ false))
 
 -- one more record is open, whose tag ends where the stage does and whose name begins here; its first field is awaited
 abbrev pub begun : ℕ → Mem → Mem

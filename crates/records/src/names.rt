@@ -1,7 +1,6 @@
 // Values at a content place that bring a name: wrapped values and rows of variants.
 ghost use Rattle.std.specs.Prelude.{◌≡◌, ℕ, ◌<◌, Bool, true, false};
 ghost use Rattle.model.specs.declared.place.Place.TheVariants.{Content as ContentPlace};
-ghost use Rattle.model.specs.Strings.{utf8};
 ghost use Rattle.model.specs.Calls.{call_value, val_wrapped, val_variant_row, is_text_name};
 ghost use Rattle.engine.specs.Memory.{mem, Safe};
 ghost use Rattle.engine.specs.Lays.{Does};
@@ -12,40 +11,40 @@ use model::{Frame, Place};
 use nests::take_frame;
 use refusal::Refusal;
 
-/// Whether well-formed bytes are a name, and the name stack has room for it.
-pub(crate) fn name_fits(core: &Core<'_>, name: &[u8]) -> Result<(), Refusal>
+/// Whether this text is a name, and the name stack has room for it.
+pub(crate) fn name_fits(core: &Core<'_>, name: &str) -> Result<(), Refusal>
     requires safe { Safe (mem core.now) }
-    requires well_formed { utf8 name.now ≡ true }
     ensures named { Named result name.now (mem core.now) }
 {
     check_name(name)?;
-    if !core.names.fits(&name) {
+    if !core.names.fits(&name.as_bytes()) {
         return Err(Refusal::Stack);
     }
     Ok(())
 }
 
-// Whether the name announces a text, which is refused where none may stand.
-fn announces_text(name: &[u8], texts: bool) -> Result<bool, Refusal>
-    ensures announced { TextAnnounced result name.now texts }
+// The name of an element; none where it announces a text, which is refused where none may stand.
+fn element_name(name: &[u8], texts: bool) -> Result<Option<&str>, Refusal>
+    ensures announced { TextAnnounced (λ s. s.now) result name.now texts }
 {
-    check_bytes(name)?;
-    let text = is_text_name(name);
-    if text && !texts {
+    let element = check_bytes(name)?;
+    if !is_text_name(name) {
+        return Ok(Some(element));
+    }
+    if !texts {
         return Err(Refusal::RunOn);
     }
-    Ok(text)
+    Ok(None)
 }
 
 // A wrapped value that becomes an element of this name.
-fn wrap(core: &mut Core<'_>, name: &[u8]) -> Result<(), Refusal>
+fn wrap(core: &mut Core<'_>, name: &str) -> Result<(), Refusal>
     requires safe { Safe (mem core.old) }
-    requires well_formed { utf8 name.now ≡ true }
     requires element { is_text_name name.now ≡ false }
     ensures does { (room : ℕ) (texts : Bool) → core.old.place ≡ ContentPlace texts → Does (call_value (val_wrapped name.now)) room result (mem core.old) (mem core.new) }
 {
     name_fits(core, name)?;
-    let from = core.push_name(name);
+    let from = core.push_name(name.as_bytes());
     core.place = Place::Element(from);
     Ok(())
 }
@@ -56,7 +55,7 @@ pub fn wrapped_at_content(core: &mut Core<'_>, texts: bool, name: &[u8]) -> Resu
     requires place { core.old.place ≡ ContentPlace texts }
     ensures does { (room : ℕ) → Does (call_value (val_wrapped name.now)) room result (mem core.old) (mem core.new) }
 {
-    if !announces_text(name, texts)? {
+    if let Some(name) = element_name(name, texts)? {
         return wrap(core, name);
     }
     core.place = Place::Simple;
@@ -64,10 +63,9 @@ pub fn wrapped_at_content(core: &mut Core<'_>, texts: bool, name: &[u8]) -> Resu
 }
 
 // A row in which each item is an element of this name.
-fn open_named(core: &mut Core<'_>, name: &[u8]) -> Result<(), Refusal>
+fn open_named(core: &mut Core<'_>, name: &str) -> Result<(), Refusal>
     requires safe { Safe (mem core.old) }
     requires open { 0 < core.old.frames.used }
-    requires well_formed { utf8 name.now ≡ true }
     requires element { is_text_name name.now ≡ false }
     ensures does { (room : ℕ) (texts : Bool) → core.old.place ≡ ContentPlace texts → Does (call_value (val_variant_row name.now)) room result (mem core.old) (mem core.new) }
 {
@@ -76,7 +74,7 @@ fn open_named(core: &mut Core<'_>, name: &[u8]) -> Result<(), Refusal>
         return Err(Refusal::Depth);
     }
     let flag = core.top().flag;
-    let from = core.push_name(name);
+    let from = core.push_name(name.as_bytes());
     core.push(Frame::named_row(flag, core.names.used, from));
     core.place = Place::Element(from);
     Ok(())
@@ -89,7 +87,7 @@ pub fn variant_row_at_content(core: &mut Core<'_>, texts: bool, name: &[u8]) -> 
     requires place { core.old.place ≡ ContentPlace texts }
     ensures does { (room : ℕ) → Does (call_value (val_variant_row name.now)) room result (mem core.old) (mem core.new) }
 {
-    if !announces_text(name, texts)? {
+    if let Some(name) = element_name(name, texts)? {
         return open_named(core, name);
     }
     take_frame(core, Frame::list(), Place::TextItem(false))

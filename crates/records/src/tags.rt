@@ -1,7 +1,6 @@
 // Records at a value place: a tag opens behind the children, and its record's fields come next.
 ghost use Rattle.std.specs.Prelude.{◌≡◌, ℕ, ◌<◌, ◌≤◌, Bool, true, length};
 ghost use Rattle.model.specs.declared.place.Place.TheVariants.{Element as ElementPlace, Content as ContentPlace};
-ghost use Rattle.model.specs.Strings.{utf8};
 ghost use Rattle.model.specs.Calls.{Value, call_value, val_record, val_variant_record};
 ghost use Rattle.engine.specs.Memory.{mem, Safe};
 ghost use Rattle.engine.specs.Lays.{Does};
@@ -48,10 +47,9 @@ pub fn record_at_element(core: &mut Core<'_>, from: usize, name: &[u8]) -> Resul
 
 // A record whose tag has this name, at a content place. A refusal changes nothing: so the tag is written from the name that
 // the call brings, and the name goes on the name stack once nothing more can be refused.
-fn enter(core: &mut Core<'_>, name: &[u8]) -> Result<(), Refusal>
+fn enter(core: &mut Core<'_>, name: &str) -> Result<(), Refusal>
     requires safe { Safe (mem core.old) }
     requires open { 0 < core.old.frames.used }
-    requires well_formed { utf8 name.now ≡ true }
     ensures does { (room : ℕ) (texts : Bool) (c : Value) → core.old.place ≡ ContentPlace texts → RecordValue c name.now → Does (call_value c) room result (mem core.old) (mem core.new) }
 {
     name_fits(core, name)?;
@@ -59,8 +57,8 @@ fn enter(core: &mut Core<'_>, name: &[u8]) -> Result<(), Refusal>
         return Err(Refusal::Depth);
     }
     let lead = lead(core);
-    put(&mut core.stage, &(lead, name))?;
-    let from = core.push_name(name);
+    put(&mut core.stage, &(lead, name.as_bytes()))?;
+    let from = core.push_name(name.as_bytes());
     begin_fields(core, from);
     Ok(())
 }
@@ -72,7 +70,7 @@ pub fn record_at_content(core: &mut Core<'_>, texts: bool, name: &[u8]) -> Resul
     requires place { core.old.place ≡ ContentPlace texts }
     ensures does { (room : ℕ) → Does (call_value (val_record name.now)) room result (mem core.old) (mem core.new) }
 {
-    check_bytes(name)?;
+    let name = check_bytes(name)?;
     enter(core, name)
 }
 
@@ -87,9 +85,9 @@ pub fn variant_record_at_content(
     requires place { core.old.place ≡ ContentPlace texts }
     ensures does { (room : ℕ) → Does (call_value (val_variant_record name.now)) room result (mem core.old) (mem core.new) }
 {
-    check_bytes(name)?;
+    let text = check_bytes(name)?;
     if is_text_name(name) {
         return Err(Refusal::Shape);
     }
-    enter(core, name)
+    enter(core, text)
 }

@@ -34,11 +34,11 @@ pub fn variant_at_content(core: &mut Core<'_>, texts: bool, name: &[u8]) -> Resu
     requires place { core.old.place ≡ ContentPlace texts }
     ensures does { (room : ℕ) (ρ : Rule) → Does (call_value (val_variant ρ name.now)) room result (mem core.old) (mem core.new) }
 {
-    check_bytes(name)?;
+    let text = check_bytes(name)?;
     if is_text_name(name) {
         core.settle(WriteResult::Nothing);
         return Ok(());
     }
-    check_name(name)?;
+    check_name(text)?;
     write_element(core, name)
 }

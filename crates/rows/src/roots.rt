@@ -61,7 +61,7 @@ pub fn open(core: &mut Core<'_>, name: &[u8]) -> Result<(), Refusal>
     requires place { core.old.place ≡ IdlePlace }
     ensures does { (room : ℕ) → Does (call_open name.now) room result (mem core.old) (mem core.new) }
 {
-    check_bytes(name)?;
-    check_name(name)?;
+    let text = check_bytes(name)?;
+    check_name(text)?;
     open_named(core, name)
 }

@@ -1,21 +1,30 @@
-use Rattle.std.proofs.Common.{◌≡◌, ◌≤◌, length, None, Err, subst, rules, arith}
+use Rattle.std.proofs.lemmas.Grind.{common_steps}
+use Rattle.std.proofs.Common.{◌≡◌, ◌≤◌, true, ◌∷◌, length, None, Err, subst, rules, arith}
 use Rattle.refusal.specs.Refusals.{offset}
 use Rattle.xml.specs.Names.{name_fault}
+use Rattle.model.specs.Strings.{utf8}
 use Rattle.engine.specs.Memory.{mem}
 use Rattle.engine.specs.Checks.{CheckedName}
-use Rattle.fields.proofs.AttributeKeys.{behind_at, fault_within, attribute_key}
+use Rattle.fields.proofs.AttributeKeys.{at_before, fault_within, attribute_key}
 use Rattle.fields.proofs.keys.attribute_field.Goals as goal
-
-pub check_name-requires : goal.check_name-requires
-check_name-requires c = behind_at c.args.name.now c.requires.name_value
 
 pub map_err-requires : goal.map_err-requires
 map_err-requires c =
     let n = c.args.name.now in
     λ e is.
     let told : CheckedName (Err e) n = subst (λ r. CheckedName r n) is c.check_name.ensures.checked in
-    let low : offset e ≤ length n = fault_within n (offset e) (behind_at n c.requires.name_value) told.0 in
+    let low : offset e ≤ length n = fault_within n (offset e) c.utf8.name told.0 in
     λ taken given offset. omega (arith, low, offset.ensures)
+
+pub returns-in_err-map_err : goal.returns-in_err-map_err
+returns-in_err-map_err c =
+    let fine : utf8 (64 ∷ c.args.name.now) ≡ true = at_before c.args.name.now c.utf8.name in
+    grind (arith, common_steps)
+
+pub returns-in_err-put_in_tag : goal.returns-in_err-put_in_tag
+returns-in_err-put_in_tag c =
+    let fine : utf8 (64 ∷ c.args.name.now) ≡ true = at_before c.args.name.now c.utf8.name in
+    grind (arith, common_steps)
 
 pub returns : goal.returns
 returns c =
@@ -23,5 +32,5 @@ returns c =
     let n = c.args.name.now in
     let w = mem c.args.core.now in
     let named : name_fault n ≡ None = search rules in
-    let puts = c.in_ok-put_in_tag.ensures.puts in
-    record { does = λ room. attribute_key n room w p.safe p.place p.name_value named (mem c.put_in_tag.new.self) puts.0 puts.1 }
+    let puts = rw c.as_bytes.ensures.value at c.in_ok-put_in_tag.ensures.puts in
+    record { does = λ room. attribute_key n room w p.safe p.place (at_before n c.utf8.name) named (mem c.put_in_tag.new.self) puts.0 puts.1 }
