@@ -1,4 +1,3 @@
-pub mod Appending
 pub mod Fronts
 pub mod Settling
 pub mod Kids

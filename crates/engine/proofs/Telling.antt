@@ -1,8 +1,8 @@
 -- The verdict's rows one by one: what a call answers where a row is the first to apply, and where none does. Assumes nothing.
-use Rattle.std.proofs.Common.{◌≡◌, ℕ, ◌+◌, ◌-◌, ◌<◌, ◌≤◌, min, Bool, true, false, leb, [], ◌∷◌, length, Some, None, Ok, Err, Option, sym, refl, ap, ◌∙◌, subst, arith}
+use Rattle.std.proofs.Common.{◌≡◌, ℕ, ◌+◌, ◌-◌, ◌<◌, ◌≤◌, min, Bool, true, false, leb, [], ◌∷◌, length, None, Ok, Err, Option, sym, refl, ap, subst, arith}
 use Rattle.std.proofs.lemmas.Bool.{lt-ltb, le-ltb, le-leb, lt-leb, and_left, and_right, and_from}
 use Rattle.refusal.specs.declared.Refusal.{Refusal}
-use Rattle.refusal.specs.declared.Refusal.TheVariants.{Order, Bytes as BytesAt, Shape, RunOn, Name as NameAt, Stack, Depth, Stage, Sink}
+use Rattle.refusal.specs.declared.Refusal.TheVariants.{Order, Bytes as BytesAt, Shape, RunOn, Stack, Depth, Stage, Sink}
 use Rattle.model.specs.Strings.{whole}
 use Rattle.model.specs.Calls.{Call}
 use Rattle.model.specs.Model.{State}
@@ -33,18 +33,6 @@ decided a b c d o e f g h k m =
     judged (first (when a Order ∷ when b (BytesAt k) ∷ when c Shape ∷ when d RunOn ∷ fault_at o ∷ when e Stack ∷ when f Depth ∷ when g Stage ∷ when h Sink ∷ [])) m
 
 module _ (a b c d : Bool) (o : Option ℕ) (e f g h : Bool) (k : ℕ) (m : State) where
-  on_bytes : a ≡ false → b ≡ true → decided a b c d o e f g h k m ≡ refuse (BytesAt k)
-  on_bytes p q = rw (p, q)
-
-  on_shape : a ≡ false → b ≡ false → c ≡ true → decided a b c d o e f g h k m ≡ refuse Shape
-  on_shape p q r = rw (p, q, r)
-
-  on_text : a ≡ false → b ≡ false → c ≡ false → d ≡ true → decided a b c d o e f g h k m ≡ refuse RunOn
-  on_text p q r s = rw (p, q, r, s)
-
-  on_name : (n : ℕ) → a ≡ false → b ≡ false → c ≡ false → d ≡ false → o ≡ Some n → decided a b c d o e f g h k m ≡ refuse (NameAt n)
-  on_name n p q r s t = rw (p, q, r, s, t)
-
   on_stack : a ≡ false → b ≡ false → c ≡ false → d ≡ false → o ≡ None → e ≡ true → decided a b c d o e f g h k m ≡ refuse Stack
   on_stack p q r s t u = rw (p, q, r, s, t, u)
 
@@ -67,18 +55,6 @@ module _ (w : Mem) (room : ℕ) (c : Call) (m : State) where
 
   pub told_order : out_of_order c m ≡ true → Told (verdict (setting w) room c m) (Err Order) w w
   told_order h = told_by Order (ap (λ a. decided a (ill_formed c) (misshapen c m) (runs_on c m) (misnamed c m) (stack_full (setting w) c m) (too_deep (setting w) c m) (stage_full (setting w) c m) (sink_full (setting w) room c m) (whole (string_of c)) (next w.form c m)) h)
-
-  pub told_bytes : (k : ℕ) → out_of_order c m ≡ false → ill_formed c ≡ true → k ≡ whole (string_of c) → Told (verdict (setting w) room c m) (Err (BytesAt k)) w w
-  told_bytes k p q e =
-      told_by (BytesAt k) (on_bytes (out_of_order c m) (ill_formed c) (misshapen c m) (runs_on c m) (misnamed c m) (stack_full (setting w) c m) (too_deep (setting w) c m) (stage_full (setting w) c m) (sink_full (setting w) room c m) (whole (string_of c)) (next w.form c m) p q ∙ ap (λ n. refuse (BytesAt n)) (sym e))
-
-  pub told_run_on : out_of_order c m ≡ false → ill_formed c ≡ false → misshapen c m ≡ false → runs_on c m ≡ true → Told (verdict (setting w) room c m) (Err RunOn) w w
-  told_run_on p q r s =
-      told_by RunOn (on_text (out_of_order c m) (ill_formed c) (misshapen c m) (runs_on c m) (misnamed c m) (stack_full (setting w) c m) (too_deep (setting w) c m) (stage_full (setting w) c m) (sink_full (setting w) room c m) (whole (string_of c)) (next w.form c m) p q r s)
-
-  pub told_name : (k : ℕ) → out_of_order c m ≡ false → ill_formed c ≡ false → misshapen c m ≡ false → runs_on c m ≡ false → misnamed c m ≡ Some k → Told (verdict (setting w) room c m) (Err (NameAt k)) w w
-  told_name k p q r s t =
-      told_by (NameAt k) (on_name (out_of_order c m) (ill_formed c) (misshapen c m) (runs_on c m) (misnamed c m) (stack_full (setting w) c m) (too_deep (setting w) c m) (stage_full (setting w) c m) (sink_full (setting w) room c m) (whole (string_of c)) (next w.form c m) k p q r s t)
 
   -- the sizes are the slices' lengths
   stack_is_full : Safe w → Front w.names (names m) → length w.names.all < w.names.used + length (name_brought c m) → stack_full (setting w) c m ≡ true

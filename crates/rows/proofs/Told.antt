@@ -1,35 +1,30 @@
 -- A value's answer from what the code's step says it wrote. Assumes nothing.
 use Rattle.std.proofs.Common.{◌≡◌, ℕ, suc, Bool, true, false, List, [], length, Some, Ok, Err, Result, sym, refl, ap, ◌∙◌, subst, arith}
-use Rattle.std.proofs.lemmas.Bool.{not_from_true, not_from_false, and_right}
+use Rattle.std.proofs.lemmas.Bool.{not_from_true, and_right}
 use Rattle.std.proofs.lemmas.Str.{IsUtf8-nil}
 use Rattle.refusal.specs.declared.Refusal.{Refusal}
-use Rattle.refusal.specs.declared.Refusal.TheVariants.{Bytes as BytesAt, Stage}
+use Rattle.refusal.specs.declared.Refusal.TheVariants.{Stage}
 use Rattle.style.specs.declared.result.WriteResult.{WriteResult}
 use Rattle.style.specs.declared.result.WriteResult.TheVariants.{Element as element_result}
-use Rattle.model.specs.Strings.{utf8, whole}
-use Rattle.model.specs.Calls.{Value, Call, call_value}
+use Rattle.model.specs.Strings.{utf8}
+use Rattle.model.specs.Calls.{Value, call_value}
 use Rattle.model.specs.Marks.{Mark, flatten}
-use Rattle.model.specs.Model.{Level, Row, Outer, Spot, element, State, inside, stack}
+use Rattle.model.specs.Model.{Level, Row, Outer, Spot, element, inside, stack}
 use Rattle.model.specs.Step.{done, put, put_element, moved_if, settle, with_body, with_tag}
 use Rattle.model.specs.Layout.{spot_frames}
-use Rattle.model.specs.Grounds.{out_of_order, string_of, no_element, is_text, value_string}
+use Rattle.model.specs.Grounds.{no_element, is_text, value_string}
 use Rattle.model.specs.Table.{verdict, next, or_stay, value_opens}
 use Rattle.model.proofs.Spelling.{utf8_from}
 use Rattle.engine.specs.Memory.{Mem, Safe, settled, worded, appended}
 use Rattle.engine.specs.Lays.{Lays, setting, Told}
 use Rattle.engine.proofs.Kids.{more_kids}
 use Rattle.engine.proofs.Values.{value_ok, value_full}
-use Rattle.engine.proofs.Telling.{Clear, Small, told_bytes}
+use Rattle.engine.proofs.Telling.{Clear, Small}
 use Rattle.rows.specs.Pieces.{Writes}
 
 -- no bytes are well-formed
 pub well_formed_none : utf8 [] ≡ true
 well_formed_none = utf8_from [] IsUtf8-nil
-
--- bytes that are not well-formed
-pub told_ill_formed : (w : Mem) (room : ℕ) (c : Call) (m : State) (e : Refusal) → out_of_order c m ≡ false → utf8 (string_of c) ≡ false → e ≡ BytesAt (whole (string_of c)) → Told (verdict (setting w) room c m) (Err e) w w
-told_ill_formed w room c m e o h is =
-    subst (λ x. Told (verdict (setting w) room c m) (Err x) w w) (sym is) (told_bytes w room c m (whole (string_of c)) o (not_from_false (utf8 (string_of c)) h) refl)
 
 -- a value that writes marks and is complete
 pub spot_told : (c : Value) (room : ℕ) (s : Spot) (rs : List Row) (l : Level) (ls : List Outer) (w v : Mem) (res : Result (Unit {0}) Refusal) (r : WriteResult) (ms : List Mark) (t : Bool) (bs : List ℕ) → spot_frames s ≡ [] → Clear (call_value c) (inside s rs l ls) → Small (call_value c) (inside s rs l ls) w → put w.form (suc (length ls)) rs (stack rs l) l.body s c ≡ Some (done r (more_kids l.body ms t)) → bs ≡ flatten w.indentation ms → Safe w → Lays (inside s rs l ls) w → Writes res bs r t w v → Told (verdict (setting w) room (call_value c) (inside s rs l ls)) res w v
