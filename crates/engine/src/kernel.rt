@@ -1,5 +1,5 @@
 // The small steps on the writer's memory.
-// A caller of these knows that what it writes fits; it asks for the room first.
+// `put` and `put_in_tag` refuse what does not fit; a caller of the others has asked for the room first.
 ghost use Rattle.std.specs.Prelude.{◌≡◌, ℕ, ◌+◌, ◌<◌, ◌≤◌, Bool, length};
 ghost use Rattle.model.specs.Marks.{bytes_of_mark, less_than};
 ghost use Rattle.engine.specs.Frames.{next_place};
@@ -53,6 +53,7 @@ impl Core<'_> {
     pub fn lead(&self, indented: bool, around: usize) -> Lead
         requires { around ≤ 64 }
         ensures value { ⟦<Lead as Piece>⟧.bytes result ≡ bytes_of_mark (mem self.now).indentation (less_than indented around) }
+        ensures small { length (⟦<Lead as Piece>⟧.bytes result) ≤ 1026 }
     {
         match self.style.indentation() {
             Some(indent) if indented => {

@@ -18,7 +18,7 @@ pub enum Kind {
     List,
 }
 
-/// One open thing. One struct for every kind, since the frames are a table that the caller lends.
+/// One open thing. One struct for every kind, since a call changes a flag, a last result or the end of a tag where it stands.
 #[derive(Clone, Copy, PartialEq, Eq, Debug)]
 pub struct Frame {
     pub kind: Kind,

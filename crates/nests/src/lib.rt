@@ -1,4 +1,4 @@
-// What opens and closes: rows, lists and records, their ends, and the values of attributes.
+// What opens and closes: rows and lists, and their ends.
 #![tactic(auto)]
 
 mod ends;

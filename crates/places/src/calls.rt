@@ -93,19 +93,20 @@ pub fn take_value<R: EscapeRule>(core: &mut Core<'_>, value: &Value<'_, R>) -> R
     requires sound { Sound (mem core.old) }
     ensures does { (room : ℕ) (v : meant.Value) → ValueIs R.EscapeRule.chooses value.now v → Does (call_value v) room result (mem core.old) (mem core.new) }
 {
+    // One match, so that every pair of place and value is in sight.
     match (core.place, value) {
-        (Place::Element(from), Value::Text(text, rule)) => {
-            text_at_element(core, from, Unescaped { value: text, rule })
+        (Place::Element(from), Value::Text(value, rule)) => {
+            text_at_element(core, from, Unescaped { value, rule })
         }
         (Place::Element(from), Value::Nothing) => none_at_element(core, from),
-        (Place::Element(from), Value::Variant(name, rule)) => {
-            variant_at_element(core, from, Unescaped { value: name, rule })
+        (Place::Element(from), Value::Variant(value, rule)) => {
+            variant_at_element(core, from, Unescaped { value, rule })
         }
         (Place::Element(from), Value::Row) => row_at_element(core, from),
         (Place::Element(from), Value::Record(name)) => record_at_element(core, from, name),
 
-        (Place::Content(texts), Value::Text(text, rule)) => {
-            text_at_content(core, texts, Unescaped { value: text, rule })
+        (Place::Content(texts), Value::Text(value, rule)) => {
+            text_at_content(core, texts, Unescaped { value, rule })
         }
         (Place::Content(texts), Value::Nothing) => none_at_content(core, texts),
         (Place::Content(texts), Value::Variant(name, _)) => variant_at_content(core, texts, name),
@@ -119,55 +120,28 @@ pub fn take_value<R: EscapeRule>(core: &mut Core<'_>, value: &Value<'_, R>) -> R
             variant_record_at_content(core, texts, name)
         }
 
-        (Place::Text, Value::Variant(name, rule)) => {
-            variant_at_text(core, Unescaped { value: name, rule })
+        (Place::Text, Value::Variant(value, rule)) => {
+            variant_at_text(core, Unescaped { value, rule })
         }
-        (Place::Text | Place::Simple, Value::Text(string, rule))
-        | (Place::Simple, Value::Variant(string, rule)) => {
-            string_as_words(
-                core,
-                Unescaped {
-                    value: string,
-                    rule,
-                },
-            )
+        (Place::Text | Place::Simple, Value::Text(value, rule))
+        | (Place::Simple, Value::Variant(value, rule)) => {
+            string_as_words(core, Unescaped { value, rule })
         }
         (Place::Text | Place::Simple, Value::Nothing) => none_as_words(core),
         (Place::Text | Place::Simple, Value::Row) => row_as_list(core),
 
-        (Place::Attribute, Value::Text(string, rule) | Value::Variant(string, rule)) => {
-            string_at_attribute(
-                core,
-                Unescaped {
-                    value: string,
-                    rule,
-                },
-            )
+        (Place::Attribute, Value::Text(value, rule) | Value::Variant(value, rule)) => {
+            string_at_attribute(core, Unescaped { value, rule })
         }
         (Place::Attribute, Value::Nothing) => none_at_attribute(core),
         (Place::Attribute, Value::Row) => row_at_attribute(core),
 
-        (Place::TextItem(written), Value::Text(string, rule) | Value::Variant(string, rule)) => {
-            string_as_item(
-                core,
-                written,
-                Unescaped {
-                    value: string,
-                    rule,
-                },
-            )
+        (Place::TextItem(written), Value::Text(value, rule) | Value::Variant(value, rule)) => {
+            string_as_item(core, written, Unescaped { value, rule })
         }
-        (Place::AttributeItem(written), Value::Text(string, rule) | Value::Variant(string, rule)) =>
-            {
-                string_at_attribute_item(
-                    core,
-                    written,
-                    Unescaped {
-                        value: string,
-                        rule,
-                    },
-                )
-            }
+        (Place::AttributeItem(written), Value::Text(value, rule) | Value::Variant(value, rule)) => {
+            string_at_attribute_item(core, written, Unescaped { value, rule })
+        }
 
         (Place::Element(_), Value::Wrapped(_) | Value::VariantRow(_) | Value::VariantRecord(_)) =>
             misfit(value),

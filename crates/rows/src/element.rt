@@ -41,7 +41,7 @@ pub fn text_at_element<R: EscapeRule>(
     }
 }
 
-/// A variant at the element place. Beside the text: there the empty one writes nothing, and here `$text`.
+/// A variant at the element place. Beside the text: there the empty string is an empty tag, and here `$text`.
 pub fn variant_at_element<R: EscapeRule>(
     core: &mut Core<'_>,
     from: usize,

@@ -1,5 +1,5 @@
 // Whole elements behind the children: an empty tag, or a text between two tags.
-ghost use Rattle.std.specs.Prelude.{◌≡◌, ℕ, ◌<◌, ◌≤◌, false};
+ghost use Rattle.std.specs.Prelude.{◌≡◌, ℕ, ◌+◌, ◌<◌, ◌≤◌, false, length};
 ghost use Rattle.style.specs.declared.result.WriteResult.TheVariants.{Element as ElementResult};
 ghost use Rattle.xml.specs.Escaping.{escaped};
 ghost use Rattle.xml.specs.declared.escape.Use.TheVariants.{Text as TextUse};
@@ -21,6 +21,7 @@ pub fn lead(core: &Core<'_>) -> Lead
     requires safe { Safe (mem core.now) }
     requires open { 0 < core.now.frames.used }
     ensures value { ⟦<Lead as Piece>⟧.bytes result ≡ lead_of (mem core.now) }
+    ensures small { length (⟦<Lead as Piece>⟧.bytes result) ≤ 1026 }
 {
     let top = core.top();
     core.lead(top.flag & !core.wordy, core.records)
@@ -29,6 +30,7 @@ pub fn lead(core: &Core<'_>) -> Lead
 /// The end of an empty tag of this name.
 pub fn shut(form: EmptyElementHandling, name: &[u8]) -> Shut<'_>
     ensures value { ⟦<Shut<'static> as Piece>⟧.bytes result ≡ shut form name.now }
+    ensures small { length (⟦<Shut<'static> as Piece>⟧.bytes result) ≤ length name.now + 4 }
 {
     match form {
         EmptyElementHandling::SelfClosed => (b"/>", None),

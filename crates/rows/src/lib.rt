@@ -1,4 +1,5 @@
-// What each call does at each place: one function for each row of the places.
+// What each call does at the places where a value becomes an element or a text, and the first call and the last: a function for
+// each row of the places.
 #![tactic(auto)]
 
 mod element;

@@ -55,8 +55,8 @@ fn serve<R: EscapeRule, S: Sink>(
     }
 }
 
-// Runs the calls one after another, and stores each answer at its call's place: the answers are made before the first call,
-// so that no run stops for want of memory.
+// Runs the calls one after another. The answers are made before the first call, so that no run stops for want of memory, and
+// each is stored by its index: of a slice that an iterator has lent for writing a proof knows the length alone.
 fn serve_all<R: EscapeRule, S: Sink>(
     writer: &mut Writer<'_>,
     sink: &mut S,
@@ -94,12 +94,10 @@ impl Writer<'_> {
         ensures meant { (cs : List meant.Call) × CallsAre R.chooses calls.now cs }
         ensures replayed { MatchResult result (λ x. (cs : List meant.Call) → CallsAre R.chooses calls.now cs → Replayed cs (mem self.old.core) (mem self.new.core) (S.held sink.old) (S.room sink.old) (S.held sink.new) (S.room sink.new) (all_answered x.0.items)) (λ _. (mem self.new.core ≡ mem self.old.core) × (sink.new ≡ sink.old)) }
     {
-        match vec![in heap; Ok(()); calls.len()] {
-            Err(_) => Err(held),
-            Ok(mut answers) => {
-                let held = serve_all(self, sink, held, calls, &mut answers);
-                Ok((answers, held))
-            }
-        }
+        let Ok(mut answers) = vec![in heap; Ok(()); calls.len()] else {
+            return Err(held);
+        };
+        let held = serve_all(self, sink, held, calls, &mut answers);
+        Ok((answers, held))
     }
 }

@@ -7,11 +7,11 @@ use Rattle.writer.proofs.Meaning.{calls_meant}
 use Rattle.writer.proofs.Replaying.{replayed}
 use Rattle.writer.proofs.writer.Writer.replay.Goals as goal
 
-pub returns-in-Err : goal.returns-in-Err
-returns-in-Err g c = record { meant = calls_meant g.R.EscapeRule.chooses g.met.R.EscapeRule.within g.met.R.EscapeRule.enough c.args.calls.now; replayed = (refl, refl) }
+pub returns-in_default : goal.returns-in_default
+returns-in_default g c = record { meant = calls_meant g.R.EscapeRule.chooses g.met.R.EscapeRule.within g.met.R.EscapeRule.enough c.args.calls.now; replayed = (refl, refl) }
 
-pub returns-in-Ok : goal.returns-in-Ok
-returns-in-Ok g c =
+pub returns : goal.returns
+returns g c =
     let last = c.serve_all-held.new in
     let stored = last.answers in
     let size : c.in-Ok.answers.len ≡ length stored = search rules in
