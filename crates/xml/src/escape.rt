@@ -176,7 +176,7 @@ pub fn escaped_len<R: EscapeRule>(value: &[u8], rule: &R, target: Use) -> usize
 }
 
 // All bytes of a value, where there is room for them.
-pub fn escape_all<R: EscapeRule>(
+fn escape_all<R: EscapeRule>(
     out: &mut [u8],
     at: usize,
     value: &[u8],

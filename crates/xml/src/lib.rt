@@ -5,9 +5,7 @@ mod escape;
 mod name;
 mod text;
 
-pub use escape::{
-    EscapeRule, Escaped, QuoteLevel, Unescaped, Use, escape_all, escape_into, escaped_len,
-};
+pub use escape::{EscapeRule, Escaped, QuoteLevel, Unescaped, Use, escape_into, escaped_len};
 pub use name::XmlName;
 pub use text::well_formed;
 
