@@ -15,8 +15,8 @@ pub(crate) fn insert<P: Piece>(
     piece: &P,
     next: Place,
 ) -> Result<(), Refusal>
-    requires used { core.old.stage.used ≤ length core.old.stage.at.now }
-    requires within { frame < length core.old.frames.at.now }
+    requires used { core.old.stage.used ≤ length core.old.stage.all.now }
+    requires within { frame < length core.old.frames.all.now }
     requires tag { (frame_at (mem core.old) frame).tag ≤ core.old.stage.used }
     ensures inserts { Inserts result frame (P.bytes piece.now) next (mem core.old) (mem core.new) }
 {

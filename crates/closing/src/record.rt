@@ -17,7 +17,7 @@ use style::WriteResult;
 // Frees the record's frame: the root is complete, and any other record is an element in the one around it.
 fn leave_record(core: &mut Core<'_>)
     requires open { 0 < core.old.frames.used }
-    requires within { core.old.frames.used ≤ length core.old.frames.at.now }
+    requires within { core.old.frames.used ≤ length core.old.frames.all.now }
     requires records { 0 < core.old.records }
     ensures left { Left (mem core.old) (mem core.new) }
 {

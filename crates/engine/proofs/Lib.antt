@@ -7,3 +7,4 @@ pub mod Values
 pub mod Tags
 pub mod Checking
 pub mod Tops
+pub mod Begins

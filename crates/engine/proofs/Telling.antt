@@ -1,8 +1,8 @@
 -- The verdict's rows one by one: what a call answers where a row is the first to apply, and where none does. Assumes nothing.
-use Rattle.std.proofs.Common.{◌≡◌, ℕ, ◌+◌, ◌-◌, ◌<◌, ◌≤◌, min, Bool, true, false, leb, [], ◌∷◌, length, None, Ok, Err, Option, sym, refl, ap, subst, arith}
+use Rattle.std.proofs.Common.{◌≡◌, ℕ, ◌+◌, ◌-◌, ◌<◌, ◌≤◌, min, Bool, true, false, leb, [], ◌∷◌, length, Some, None, Ok, Err, Option, sym, refl, ap, subst, arith}
 use Rattle.std.proofs.lemmas.Bool.{lt-ltb, le-ltb, le-leb, lt-leb, and_left, and_right, and_from}
 use Rattle.refusal.specs.declared.Refusal.{Refusal}
-use Rattle.refusal.specs.declared.Refusal.TheVariants.{Order, Bytes as BytesAt, Shape, RunOn, Stack, Depth, Stage, Sink}
+use Rattle.refusal.specs.declared.Refusal.TheVariants.{Order, Bytes as BytesAt, Shape, RunOn, Name as NameAt, Stack, Depth, Stage, Sink}
 use Rattle.model.specs.Strings.{whole}
 use Rattle.model.specs.Calls.{Call}
 use Rattle.model.specs.Model.{State}
@@ -33,6 +33,9 @@ decided a b c d o e f g h k m =
     judged (first (when a Order ∷ when b (BytesAt k) ∷ when c Shape ∷ when d RunOn ∷ fault_at o ∷ when e Stack ∷ when f Depth ∷ when g Stage ∷ when h Sink ∷ [])) m
 
 module _ (a b c d : Bool) (o : Option ℕ) (e f g h : Bool) (k : ℕ) (m : State) where
+  on_name : (j : ℕ) → a ≡ false → b ≡ false → c ≡ false → d ≡ false → o ≡ Some j → decided a b c d o e f g h k m ≡ refuse (NameAt j)
+  on_name j p q r s t = rw (p, q, r, s, t)
+
   on_stack : a ≡ false → b ≡ false → c ≡ false → d ≡ false → o ≡ None → e ≡ true → decided a b c d o e f g h k m ≡ refuse Stack
   on_stack p q r s t u = rw (p, q, r, s, t, u)
 
@@ -55,6 +58,10 @@ module _ (w : Mem) (room : ℕ) (c : Call) (m : State) where
 
   pub told_order : out_of_order c m ≡ true → Told (verdict (setting w) room c m) (Err Order) w w
   told_order h = told_by Order (ap (λ a. decided a (ill_formed c) (misshapen c m) (runs_on c m) (misnamed c m) (stack_full (setting w) c m) (too_deep (setting w) c m) (stage_full (setting w) c m) (sink_full (setting w) room c m) (whole (string_of c)) (next w.form c m)) h)
+
+  pub told_name : (j : ℕ) → out_of_order c m ≡ false → ill_formed c ≡ false → misshapen c m ≡ false → runs_on c m ≡ false → misnamed c m ≡ Some j → Told (verdict (setting w) room c m) (Err (NameAt j)) w w
+  told_name j p q r s t =
+      told_by (NameAt j) (on_name (out_of_order c m) (ill_formed c) (misshapen c m) (runs_on c m) (misnamed c m) (stack_full (setting w) c m) (too_deep (setting w) c m) (stage_full (setting w) c m) (sink_full (setting w) room c m) (whole (string_of c)) (next w.form c m) j p q r s t)
 
   -- the sizes are the slices' lengths
   stack_is_full : Safe w → Front w.names (names m) → length w.names.all < w.names.used + length (name_brought c m) → stack_full (setting w) c m ≡ true

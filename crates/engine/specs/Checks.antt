@@ -12,6 +12,6 @@ CheckedBytes (Ok x) bs = utf8 bs ≡ true
 CheckedBytes (Err e) bs = (utf8 bs ≡ false) × (e ≡ BytesAt (whole bs))
 
 -- the bytes are a name, or refused with the place of the first character at fault
-abbrev pub CheckedName : Result (Unit {0}) Refusal → List ℕ → Type 0
+abbrev pub CheckedName : {A : Type 0} → Result A Refusal → List ℕ → Type 0
 CheckedName (Ok x) n = name_fault n ≡ None
 CheckedName (Err e) n = (name_fault n ≡ Some (offset e)) × (e ≡ NameAt (offset e))

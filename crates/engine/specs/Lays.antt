@@ -1,11 +1,15 @@
 -- When a writer's memory holds a model, and what a call then answers and leaves. Assumes nothing.
-use Rattle.std.specs.Prelude.{◌≡◌, ℕ, ◌≤◌, Bool, List, [], ◌∷◌, ◌++◌, length, take, drop, Ok, Err, Result}
+use Rattle.std.specs.Prelude.{◌≡◌, ℕ, ◌≤◌, Bool, ◌⊎◌, List, [], ◌∷◌, ◌++◌, length, take, drop, Ok, Err, Result}
 use Rattle.refusal.specs.declared.Refusal.{Refusal}
-use Rattle.model.specs.Calls.{Call}
+use Rattle.model.specs.Calls.{Rule, Value, val_text, val_variant, Call}
 use Rattle.model.specs.Model.{Row, named_row, content_row, Outer, State, idle, between, inside, quote, complete, place}
 use Rattle.model.specs.Layout.{stage, names, frames, records, spot_names}
 use Rattle.model.specs.Table.{Setting, Verdict, refuse, accept, verdict}
 use Rattle.engine.specs.Memory.{Buf, Mem}
+
+-- a text, or a variant's name that may be written as one: these bytes under this rule
+abbrev pub IsString : Value → Rule → List ℕ → Type 0
+IsString c r s = (c ≡ val_text r s) ⊎ (c ≡ val_variant r s)
 
 -- the part in use is this list
 pub record Front {A : Type 0} (b : Buf A) (xs : List A) : Type 0 where

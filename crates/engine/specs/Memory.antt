@@ -1,5 +1,5 @@
 -- The writer's memory as lists and numbers, and what each small step does to it. Assumes nothing.
-use Rattle.std.specs.Prelude.{◌≡◌, ℕ, ◌+◌, ◌-◌, ◌<◌, ◌≤◌, Bool, List, length, Some, None, Option, Ok, Err, Result, slice_index_or, slice_range, slice_set}
+use Rattle.std.specs.Prelude.{◌≡◌, ℕ, ◌+◌, ◌-◌, ◌<◌, ◌≤◌, Bool, not, ◌&&◌, List, length, Some, None, Option, Ok, Err, Result, slice_index_or, slice_range, slice_set}
 use Rattle.style.specs.declared.indentation.Indentation.{Indentation}
 use Rattle.style.specs.declared.result.WriteResult.{WriteResult}
 use Rattle.style.specs.declared.style.EmptyElementHandling.{EmptyElementHandling}
@@ -11,6 +11,7 @@ use Rattle.memory.specs.Opened.{opened}
 use Rattle.model.specs.declared.place.Place.{Place}
 use Rattle.model.specs.declared.place.Place.TheVariants.{Idle}
 use Rattle.model.specs.declared.frame.Frame.{Frame}
+use Rattle.model.specs.Marks.{bytes_of_mark, less_than}
 use Rattle.engine.specs.Frames.{no_frame, settled_frame, longer_tag, next_place}
 use Rattle.engine.specs.declared.state.Core.{Core}
 
@@ -32,7 +33,7 @@ pub record Mem : Type 0 where
 
 -- the structs of the code, read so
 abbrev pub buf : {A : Type 0} → Lent A → Buf A
-buf b = record { all = b.at.now; used = b.used }
+buf b = record { all = b.all.now; used = b.used }
 
 abbrev pub mem : Core → Mem
 mem w = record {
@@ -96,6 +97,10 @@ frame_at w k = slice_index_or w.frames.all k no_frame
 
 abbrev pub top_frame : Mem → Frame
 top_frame w = frame_at w (w.frames.used - 1)
+
+-- the `<` of a tag in the innermost open thing, with its indent; this many records are open around the tag
+abbrev pub lead_among : Mem → ℕ → List ℕ
+lead_among w around = bytes_of_mark w.indentation (less_than ((top_frame w).flag && not w.wordy) around)
 
 -- bytes put in at the end of the open tag of the record whose frame stands at k
 abbrev pub in_tag : ℕ → List ℕ → Mem → Mem

@@ -6,7 +6,8 @@ ghost use Rattle.engine.specs.Checks.{CheckedBytes, CheckedName};
 use refusal::Refusal;
 use xml::{XmlName, well_formed};
 
-/// The text that the bytes are, if they are well-formed UTF-8.
+/// The text that the bytes are, if they are well-formed UTF-8. Beside `well_formed`, since its contract is in the model's words,
+/// which every caller cites.
 pub fn check_bytes(bytes: &[u8]) -> Result<&str, Refusal>
     ensures same { IfOk result (λ text. text.now ≡ bytes.now) }
     ensures checked { CheckedBytes result bytes.now }
@@ -14,14 +15,15 @@ pub fn check_bytes(bytes: &[u8]) -> Result<&str, Refusal>
     well_formed(bytes)
 }
 
-/// Whether this text is a name.
-pub fn check_name(name: &str) -> Result<(), Refusal>
-    ensures checked { CheckedName result name.now }
+/// The name that this text is, if it is one.
+pub fn check_name(text: &str) -> Result<XmlName<'_>, Refusal>
+    ensures same { IfOk result (λ name. name.name.now ≡ text.now) }
+    ensures checked { CheckedName result text.now }
 {
-    XmlName::try_from(name)?;
-    Ok(())
+    XmlName::try_from(text)
 }
 
+// Two questions and no table of the names: what they share is `==`, and each is asked by itself.
 /// Whether this is the name `$text`, which stands for text.
 pub fn is_text_name(name: &[u8]) -> bool
     ensures value { result ≡ is_text_name name.now }

@@ -1,9 +1,8 @@
 // The small steps on the writer's memory.
 // `put` and `put_in_tag` refuse what does not fit; a caller of the others has asked for the room first.
 ghost use Rattle.std.specs.Prelude.{◌≡◌, ℕ, ◌+◌, ◌<◌, ◌≤◌, Bool, length};
-ghost use Rattle.model.specs.Marks.{bytes_of_mark, less_than};
 ghost use Rattle.engine.specs.Frames.{next_place};
-ghost use Rattle.engine.specs.Memory.{mem, buf, Put, PutInTag, name_put, pushed, settled, emptied, top_frame, frame_at};
+ghost use Rattle.engine.specs.Memory.{mem, buf, Put, PutInTag, lead_among, pushed, settled, emptied, top_frame, frame_at};
 
 use crate::frames::{lengthen_tag, settle_frame};
 use crate::state::Core;
@@ -17,7 +16,7 @@ pub type Lead = (Option<([u8; 1], Run)>, [u8; 1]);
 
 /// Puts a piece behind what is in use of the stage, or refuses it where it does not fit.
 pub fn put<P: Piece>(stage: &mut Lent<'_, u8>, piece: &P) -> Result<(), Refusal>
-    requires { stage.old.used ≤ length stage.old.at.now }
+    requires { stage.old.used ≤ length stage.old.all.now }
     ensures puts { Put result (P.bytes piece.now) (buf stage.old) (buf stage.new) }
 {
     if !stage.fits(piece) {
@@ -43,18 +42,22 @@ impl Core<'_> {
     /// The frame of the innermost open thing.
     pub fn top(&self) -> Frame
         requires open { 0 < self.now.frames.used }
-        requires within { self.now.frames.used ≤ length self.now.frames.at.now }
+        requires within { self.now.frames.used ≤ length self.now.frames.all.now }
         ensures value { result ≡ top_frame (mem self.now) }
     {
         self.frames.get(self.frames.used - 1)
     }
 
-    /// The `<` of a tag, with or without an indent before it; `around` is how many records are open around the tag.
-    pub fn lead(&self, indented: bool, around: usize) -> Lead
-        requires { around ≤ 64 }
-        ensures value { ⟦<Lead as Piece>⟧.bytes result ≡ bytes_of_mark (mem self.now).indentation (less_than indented around) }
+    /// The `<` of a tag in the innermost open thing, with or without an indent before it; `around` is how many records are open
+    /// around the tag.
+    pub fn lead(&self, around: usize) -> Lead
+        requires open { 0 < self.now.frames.used }
+        requires within { self.now.frames.used ≤ length self.now.frames.all.now }
+        requires small { around ≤ 64 }
+        ensures value { ⟦<Lead as Piece>⟧.bytes result ≡ lead_among (mem self.now) around }
         ensures small { length (⟦<Lead as Piece>⟧.bytes result) ≤ 1026 }
     {
+        let indented = self.top().flag & !self.wordy;
         match self.style.indentation() {
             Some(indent) if indented => {
                 let run = Run {
@@ -70,8 +73,8 @@ impl Core<'_> {
     /// Puts a piece in at the end of the open tag of the record whose frame stands at `frame`, before its children, or refuses
     /// it where it does not fit.
     pub fn put_in_tag<P: Piece>(&mut self, frame: usize, piece: &P) -> Result<(), Refusal>
-        requires used { self.old.stage.used ≤ length self.old.stage.at.now }
-        requires within { frame < length self.old.frames.at.now }
+        requires used { self.old.stage.used ≤ length self.old.stage.all.now }
+        requires within { frame < length self.old.frames.all.now }
         requires tag { (frame_at (mem self.old) frame).tag ≤ self.old.stage.used }
         ensures puts { PutInTag result frame (P.bytes piece.now) (mem self.old) (mem self.new) }
     {
@@ -80,24 +83,13 @@ impl Core<'_> {
         }
         let tag = self.frames.get(frame).tag;
         let end = self.stage.insert(tag, piece);
-        lengthen_tag(self.frames.at, frame, end);
+        lengthen_tag(self.frames.all, frame, end);
         Ok(())
-    }
-
-    /// Puts a name on the name stack, and answers where it begins there.
-    pub fn push_name(&mut self, name: &[u8]) -> usize
-        requires { self.old.names.used + length name.now ≤ length self.old.names.at.now }
-        ensures start { result ≡ self.old.names.used }
-        ensures memory { mem self.new ≡ name_put name.now (mem self.old) }
-    {
-        let from = self.names.used;
-        self.names.append(&name);
-        from
     }
 
     /// Takes a frame.
     pub fn push(&mut self, frame: Frame)
-        requires { self.old.frames.used < length self.old.frames.at.now }
+        requires { self.old.frames.used < length self.old.frames.all.now }
         ensures memory { mem self.new ≡ pushed frame (mem self.old) }
     {
         self.frames.push(frame);
@@ -106,11 +98,11 @@ impl Core<'_> {
     /// A value with this result is complete.
     pub fn settle(&mut self, res: WriteResult)
         requires open { 0 < self.old.frames.used }
-        requires within { self.old.frames.used ≤ length self.old.frames.at.now }
+        requires within { self.old.frames.used ≤ length self.old.frames.all.now }
         ensures memory { mem self.new ≡ settled res (mem self.old) }
     {
         let at = self.frames.used - 1;
-        let frame = settle_frame(self.frames.at, at, res);
+        let frame = settle_frame(self.frames.all, at, res);
         self.names.used = frame.keep;
         self.place = place_in(frame, self.wordy);
     }

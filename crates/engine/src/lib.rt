@@ -4,6 +4,7 @@
 mod checks;
 mod frames;
 mod kernel;
+mod opening;
 mod state;
 
 pub use checks::{check_bytes, check_name, is_text_name, is_value_name};

@@ -13,7 +13,7 @@ pub struct Core<'a> {
     pub names: Lent<'a, u8>,
     /// What is open, outermost first.
     pub frames: Lent<'a, Frame>,
-    /// How many of the frames in use are records.
+    /// How many of the frames in use are records; counted, so that no call walks the frames.
     pub records: usize,
     pub place: Place,
     /// Whether a text's bytes stand last in the innermost record.

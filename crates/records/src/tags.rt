@@ -15,7 +15,7 @@ use rows::lead;
 // Opens the record whose tag's start stands last on the stage and whose name begins at `from` on the name stack: it has no
 // children yet, and its first field is awaited.
 fn begin_fields(core: &mut Core<'_>, from: usize)
-    requires free { core.old.frames.used < length core.old.frames.at.now }
+    requires free { core.old.frames.used < length core.old.frames.all.now }
     requires records { core.old.records ≤ 64 }
     ensures memory { mem core.new ≡ begun from (mem core.old) }
 {

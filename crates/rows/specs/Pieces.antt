@@ -3,12 +3,12 @@ use Rattle.std.specs.Prelude.{◌≡◌, ℕ, ◌+◌, ◌<◌, ◌≤◌, Bool,
 use Rattle.refusal.specs.declared.Refusal.{Refusal}
 use Rattle.refusal.specs.declared.Refusal.TheVariants.{Stage}
 use Rattle.style.specs.declared.result.WriteResult.{WriteResult}
-use Rattle.model.specs.Marks.{bytes_of_mark, less_than, shut}
-use Rattle.engine.specs.Memory.{Mem, top_frame, name_at, appended, worded, settled}
+use Rattle.model.specs.Marks.{shut}
+use Rattle.engine.specs.Memory.{Mem, lead_among, name_at, appended, worded, settled}
 
 -- the `<` of a child's tag, with its indent
 abbrev pub lead_of : Mem → List ℕ
-lead_of w = bytes_of_mark w.indentation (less_than ((top_frame w).flag && not w.wordy) w.records)
+lead_of w = lead_among w w.records
 
 -- the name on top of the name stack
 abbrev pub name_of : Mem → ℕ → List ℕ

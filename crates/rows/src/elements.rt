@@ -5,9 +5,9 @@ ghost use Rattle.xml.specs.Escaping.{escaped};
 ghost use Rattle.xml.specs.declared.escape.Use.TheVariants.{Text as TextUse};
 ghost use Rattle.model.specs.Marks.{shut};
 ghost use Rattle.engine.specs.Memory.{mem, Safe};
-ghost use Rattle.rows.specs.Pieces.{lead_of, name_of, empty_bytes, text_bytes, Writes};
+ghost use Rattle.rows.specs.Pieces.{name_of, empty_bytes, text_bytes, Writes};
 
-use engine::{Core, Lead, put};
+use engine::{Core, put};
 use memory::Piece;
 use refusal::Refusal;
 use style::{EmptyElementHandling, WriteResult};
@@ -15,17 +15,6 @@ use xml::{EscapeRule, Unescaped, Use};
 
 /// The end of an empty tag.
 pub type Shut<'n> = (&'static [u8], Option<(&'n [u8], [u8; 1])>);
-
-/// The `<` of a child's tag.
-pub fn lead(core: &Core<'_>) -> Lead
-    requires safe { Safe (mem core.now) }
-    requires open { 0 < core.now.frames.used }
-    ensures value { ⟦<Lead as Piece>⟧.bytes result ≡ lead_of (mem core.now) }
-    ensures small { length (⟦<Lead as Piece>⟧.bytes result) ≤ 1026 }
-{
-    let top = core.top();
-    core.lead(top.flag & !core.wordy, core.records)
-}
 
 /// The end of an empty tag of this name.
 pub fn shut(form: EmptyElementHandling, name: &[u8]) -> Shut<'_>
@@ -47,9 +36,8 @@ pub fn write_empty(core: &mut Core<'_>, from: usize) -> Result<(), Refusal>
     ensures writes { Writes result (empty_bytes (mem core.old) (name_of (mem core.old) from)) ElementResult false (mem core.old) (mem core.new) }
 {
     let form = core.style.empty_elements();
-    let lead = lead(core);
-    let end = core.names.used;
-    let name = core.names.part(from, end);
+    let lead = core.lead(core.records);
+    let name = core.names.tail(from);
     put(&mut core.stage, &(lead, (name, shut(form, name))))?;
     core.wordy = false;
     core.settle(WriteResult::Element);
@@ -67,10 +55,9 @@ pub fn write_text<R: EscapeRule>(
     requires name { from ≤ core.old.names.used }
     ensures writes { Writes result (text_bytes (mem core.old) (name_of (mem core.old) from) (escaped (R.chooses text.entry.rule.now TextUse) text.entry.value.now)) ElementResult false (mem core.old) (mem core.new) }
 {
-    let lead = lead(core);
-    let end = core.names.used;
-    let name = core.names.part(from, end);
-    let start_tag = (lead, (name, *b">"));
+    let start = core.lead(core.records);
+    let name = core.names.tail(from);
+    let start_tag = (start, (name, *b">"));
     let end_tag = (*b"</", (name, *b">"));
     put(
         &mut core.stage,

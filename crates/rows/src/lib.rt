@@ -9,7 +9,7 @@ mod roots;
 mod words;
 
 pub use element::{none_at_element, text_at_element, variant_at_element};
-pub use elements::{Shut, lead, shut};
+pub use elements::{Shut, shut};
 pub use items::gap;
 pub use roots::{abandon, open};
 pub use words::{

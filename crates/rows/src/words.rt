@@ -1,5 +1,5 @@
 // Texts among the children: at the content place, at the text place of a text field, and in place of a wrapped value.
-ghost use Rattle.std.specs.Prelude.{◌≡◌, ℕ, ◌<◌, ◌⊎◌, not, ◌||◌};
+ghost use Rattle.std.specs.Prelude.{◌≡◌, ℕ, ◌<◌, ◌⊎◌, Bool, not, ◌||◌};
 ghost use Rattle.style.specs.declared.result.WriteResult.TheVariants.{SensitiveText as SensitiveTextResult};
 ghost use Rattle.xml.specs.Escaping.{escaped};
 ghost use Rattle.xml.specs.declared.escape.Use.TheVariants.{Text as TextUse};
@@ -31,12 +31,12 @@ pub fn write_words<R: EscapeRule>(
     Ok(())
 }
 
+// Beside `none_as_words`: two rows of the places, which share no more than that a value is complete.
 /// None at the content place.
-pub fn none_at_content(core: &mut Core<'_>, allowed: bool) -> Result<(), Refusal>
+pub fn none_at_content(core: &mut Core<'_>) -> Result<(), Refusal>
     requires safe { Safe (mem core.old) }
     requires open { 0 < core.old.frames.used }
-    requires place { core.old.place ≡ ContentPlace allowed }
-    ensures does { (room : ℕ) → Does (call_value val_none) room result (mem core.old) (mem core.new) }
+    ensures does { (room : ℕ) (texts : Bool) → core.old.place ≡ ContentPlace texts → Does (call_value val_none) room result (mem core.old) (mem core.new) }
 {
     core.settle(WriteResult::SensitiveNothing);
     Ok(())

@@ -8,4 +8,4 @@ use Rattle.rows.proofs.words.none_at_content.Goals as goal
 
 pub returns : goal.returns
 returns c =
-    record { does = λ room. content_silent val_none room (mem c.args.core.now) (mem c.settle.new.self) c.requires.safe well_formed_none refl c.args.allowed c.requires.place refl refl refl refl SensitiveNothing (λ rs l ls. refl) c.settle.ensures.memory }
+    record { does = λ room texts at. content_silent val_none room (mem c.args.core.now) (mem c.settle.new.self) c.requires.safe well_formed_none refl texts at refl refl refl refl SensitiveNothing (λ rs l ls. refl) c.settle.ensures.memory }

@@ -8,7 +8,7 @@ pub invariant_of-result : goal.invariant_of-result
 invariant_of-result c =
     let style = c.args.style in
     record {
-      sound = rw (c.first.ensures.used, c.first-2.ensures.used, c.first-3.ensures.used) (∣ (idle, starting_idle style.empty_elements style.indentation c.first.result.at.now c.first-2.result.at.now c.first-3.result.at.now) ∣₁);
+      sound = rw (c.first.ensures.used, c.first-2.ensures.used, c.first-3.ensures.used) (∣ (idle, starting_idle style.empty_elements style.indentation c.first.result.all.now c.first-2.result.all.now c.first-3.result.all.now) ∣₁);
       sizes = record {
         stage = omega (arith, ap length c.first.ensures.all, length-take 65536 c.args.stage.now);
         names = omega (arith, ap length c.first-2.ensures.all, length-take 4096 c.args.names.now);
