@@ -4,10 +4,11 @@ use Rattle.xml.specs.declared.escape.Use.TheVariants.{Text as text_use}
 use Rattle.xml.specs.Escaping.{escaped}
 use Rattle.model.specs.Strings.{null}
 use Rattle.model.specs.Calls.{val_text, val_variant}
+use Rattle.model.specs.Model.{simple}
 use Rattle.engine.specs.Memory.{mem}
 use Rattle.rows.specs.Pieces.{Writes}
 use Rattle.rows.proofs.Elemental.{by_rule}
-use Rattle.rows.proofs.Wording.{only_words, simple_words}
+use Rattle.rows.proofs.Wording.{takes_simple, spot_words, only_words}
 use Rattle.rows.proofs.words.string_as_words.Goals as goal
 
 pub returns-clause-text : goal.returns-clause-text
@@ -26,6 +27,6 @@ returns-clause-variant g c =
     let s = c.args.string.value.now in
     let v = mem c.write_words.new.core in
     let r = c.write_words.result in
-    λ simple room ρ e.
-    simple_words (val_variant ρ s) room w v c.requires.safe c.in_ok-check_bytes.ensures.checked refl simple refl r (escaped (ρ.chooses text_use) s) (λ b. refl)
+    λ at room ρ e.
+    spot_words (val_variant ρ s) room w v c.requires.safe c.in_ok-check_bytes.ensures.checked refl simple at (takes_simple (val_variant ρ s) refl) r (escaped (ρ.chooses text_use) s) (λ rs l ls. refl)
     (by_rule (λ x. Writes r x SensitiveText (not (null x) || w.wordy) w v) ρ text_use s e c.write_words.ensures.writes)

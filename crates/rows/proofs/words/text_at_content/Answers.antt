@@ -4,10 +4,11 @@ use Rattle.xml.specs.declared.escape.Use.TheVariants.{Text as text_use}
 use Rattle.xml.specs.Escaping.{escaped}
 use Rattle.model.specs.Strings.{null}
 use Rattle.model.specs.Calls.{val_text}
+use Rattle.model.specs.Model.{content}
 use Rattle.engine.specs.Memory.{mem}
 use Rattle.rows.specs.Pieces.{Writes}
 use Rattle.rows.proofs.Elemental.{by_rule}
-use Rattle.rows.proofs.Wording.{content_words, may_stand}
+use Rattle.rows.proofs.Wording.{may_stand, takes_content, spot_words}
 use Rattle.rows.proofs.words.text_at_content.Goals as goal
 
 pub returns-then-is_empty : goal.returns-then-is_empty
@@ -19,6 +20,6 @@ returns-then-is_empty g c =
     let may : (c.args.allowed || eqb (length s) 0) ≡ true = search rules in
     record {
       does = λ room ρ e.
-          content_words (val_text ρ s) room w v c.requires.safe c.in_ok-check_bytes.ensures.checked refl c.args.allowed c.requires.place refl (may_stand s c.args.allowed may) refl refl r (escaped (ρ.chooses text_use) s) (λ rs l ls. refl)
+          spot_words (val_text ρ s) room w v c.requires.safe c.in_ok-check_bytes.ensures.checked refl (content c.args.allowed) c.requires.place (takes_content (val_text ρ s) c.args.allowed refl (may_stand s c.args.allowed may) refl refl) r (escaped (ρ.chooses text_use) s) (λ rs l ls. refl)
           (by_rule (λ x. Writes r x SensitiveText (not (null x) || w.wordy) w v) ρ text_use s e c.write_words.ensures.writes);
     }

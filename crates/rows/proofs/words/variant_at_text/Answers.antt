@@ -4,11 +4,12 @@ use Rattle.xml.specs.declared.escape.Use.TheVariants.{Text as text_use}
 use Rattle.xml.specs.Escaping.{escaped}
 use Rattle.model.specs.Strings.{null}
 use Rattle.model.specs.Calls.{val_variant}
+use Rattle.model.specs.Model.{text_spot}
 use Rattle.model.specs.Step.{done, with_text}
 use Rattle.engine.specs.Memory.{mem}
 use Rattle.rows.specs.Pieces.{Writes}
 use Rattle.rows.proofs.Elemental.{by_rule}
-use Rattle.rows.proofs.Wording.{text_silent, text_words, no_words}
+use Rattle.rows.proofs.Wording.{no_words, takes_text, spot_silent, spot_words}
 use Rattle.rows.proofs.words.variant_at_text.Goals as goal
 
 pub returns-then-is_text_name : goal.returns-then-is_text_name
@@ -17,8 +18,8 @@ returns-then-is_text_name g c =
     let is = sym c.is_text_name.ensures.value ∙ c.if-is_text_name.true in
     record {
       does = λ room ρ e.
-          text_silent (val_variant ρ s) room (mem c.args.core.now) (mem c.settle.new.self) c.requires.safe c.in_ok-check_bytes.ensures.checked refl c.requires.place refl
-          (λ b. ap (λ t. Some (done SensitiveText (with_text b (cond t [] (escaped (ρ.chooses text_use) s))))) is ∙ ap (λ x. Some (done SensitiveText x)) (no_words b)) c.settle.ensures.memory;
+          spot_silent (val_variant ρ s) room (mem c.args.core.now) (mem c.settle.new.self) c.requires.safe c.in_ok-check_bytes.ensures.checked refl text_spot c.requires.place (takes_text (val_variant ρ s) refl) SensitiveText
+          (λ rs l ls. ap (λ t. Some (done SensitiveText (with_text l.body (cond t [] (escaped (ρ.chooses text_use) s))))) is ∙ ap (λ x. Some (done SensitiveText x)) (no_words l.body)) c.settle.ensures.memory;
     }
 
 pub returns-else-is_text_name : goal.returns-else-is_text_name
@@ -30,7 +31,7 @@ returns-else-is_text_name g c =
     let is = sym c.is_text_name.ensures.value ∙ c.if-is_text_name.false in
     record {
       does = λ room ρ e.
-          text_words (val_variant ρ s) room w v c.requires.safe c.in_ok-check_bytes.ensures.checked refl c.requires.place refl r (escaped (ρ.chooses text_use) s)
-          (λ b. ap (λ t. Some (done SensitiveText (with_text b (cond t [] (escaped (ρ.chooses text_use) s))))) is)
+          spot_words (val_variant ρ s) room w v c.requires.safe c.in_ok-check_bytes.ensures.checked refl text_spot c.requires.place (takes_text (val_variant ρ s) refl) r (escaped (ρ.chooses text_use) s)
+          (λ rs l ls. ap (λ t. Some (done SensitiveText (with_text l.body (cond t [] (escaped (ρ.chooses text_use) s))))) is)
           (by_rule (λ x. Writes r x SensitiveText (not (null x) || w.wordy) w v) ρ text_use s e c.write_words.ensures.writes);
     }
