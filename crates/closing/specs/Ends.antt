@@ -1,12 +1,11 @@
 -- The memory once a record is left, and what its end answers. Assumes nothing.
-use Rattle.std.specs.Prelude.{◌≡◌, ℕ, ◌+◌, ◌-◌, ◌<◌, ◌≤◌, false, not, ◌&&◌, List, ◌++◌, length, Ok, Err, codes, Result}
+use Rattle.std.specs.Prelude.{◌≡◌, ℕ, ◌+◌, ◌-◌, ◌<◌, ◌≤◌, false, List, ◌++◌, length, Ok, Err, codes, Result}
 use Rattle.refusal.specs.declared.Refusal.{Refusal}
 use Rattle.refusal.specs.declared.Refusal.TheVariants.{Stage}
 use Rattle.style.specs.declared.result.WriteResult.TheVariants.{Element as element_result}
 use Rattle.memory.specs.Opened.{opened}
 use Rattle.model.specs.declared.place.Place.TheVariants.{Complete}
-use Rattle.model.specs.Marks.{bytes_of_mark, less_than}
-use Rattle.engine.specs.Memory.{Buf, Mem, top_frame, with_stage, appended, popped, counted, worded, settled}
+use Rattle.engine.specs.Memory.{Buf, Mem, lead_among, with_stage, appended, popped, counted, worded, settled}
 use Rattle.rows.specs.Pieces.{name_of}
 
 -- the root is closed: nothing is open, and the stage holds the whole record
@@ -36,7 +35,7 @@ stage_shut tag w = record { all = opened w.stage.all tag w.stage.used (codes ">"
 
 -- the `<` of the end tag of the record on top, with its indent
 abbrev pub end_lead : Mem → List ℕ
-end_lead w = bytes_of_mark w.indentation (less_than ((top_frame w).flag && not w.wordy) (w.records - 1))
+end_lead w = lead_among w (w.records - 1)
 
 -- the end tag, by where the record's name begins on the name stack
 abbrev pub end_of : Mem → ℕ → List ℕ

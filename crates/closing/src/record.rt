@@ -42,9 +42,8 @@ fn end_empty(core: &mut Core<'_>) -> Result<(), Refusal>
     ensures ends { Ends result 0 (shut (mem core.old).form (name_of (mem core.old) (top_frame (mem core.old)).from)) (mem core.old).stage (mem core.old) (mem core.new) }
 {
     let form = core.style.empty_elements();
-    let top = core.top();
-    let end = core.names.used;
-    let name = core.names.part(top.from, end);
+    let from = core.top().from;
+    let name = core.names.tail(from);
     put(&mut core.stage, &shut(form, name))?;
     leave_record(core);
     Ok(())
@@ -60,9 +59,8 @@ fn end_full(core: &mut Core<'_>) -> Result<(), Refusal>
     ensures ends { Ends result 1 (end_of (mem core.old) (top_frame (mem core.old)).from) (stage_shut (top_frame (mem core.old)).tag (mem core.old)) (mem core.old) (mem core.new) }
 {
     let top = core.top();
-    let lead = core.lead(top.flag & !core.wordy, core.records - 1);
-    let end = core.names.used;
-    let name = core.names.part(top.from, end);
+    let lead = core.lead(core.records - 1);
+    let name = core.names.tail(top.from);
     let end_tag = (lead, (*b"/", (name, *b">")));
     if !core.stage.fits(&(*b">", end_tag)) {
         return Err(Refusal::Stage);
