@@ -53,6 +53,7 @@ impl Refusal {
     }
 
     /// Where in the bytes given the fault lies, and 0 where the ground is not in the bytes.
+    // A number and no Option, since it is printed always.
     pub fn offset(&self) -> usize
         ensures value { result ≡ offset self.now }
     {

@@ -25,6 +25,7 @@ pub fn part(at: u8, text: &[u8]) -> (&[u8], &[u8])
 }
 
 /// Bytes are cut at the first `at`: no other parts have none of it in front.
+// No code in it, since a contract is what names a theorem.
 pub fn law_cut_at_the_first()
     ensures law { CutAtTheFirst }
 {}

@@ -76,6 +76,7 @@ pub fn unescape(heap: Global, text: &[u8]) -> Result<Vec<u8>, Fault>
 }
 
 /// An argument is read as its pieces say, and one that does not fall into pieces is not read.
+// No code in the two, since a contract is what names a theorem.
 pub fn law_read_by_pieces()
     ensures law { ReadByPieces }
 {}

@@ -40,6 +40,7 @@ impl Phase {
 }
 
 /// A script is stopped for its order exactly where a set-up word stands behind a call of the same writer.
+// No code in it, since a contract is what names a theorem.
 pub fn law_set_up_first()
     ensures law { SetUpFirst }
 {}

@@ -86,6 +86,7 @@ impl Word {
     }
 
     /// The word that is written like this.
+    // No table of pairs as for the settings, since the match of `spelling` leaves no word out.
     pub fn find(text: &[u8]) -> Option<Word>
         ensures names { Names result text.now }
     {
@@ -94,6 +95,7 @@ impl Word {
 }
 
 /// No two words are written alike, so a line has one word at most.
+// No code in it, since a contract is what names a theorem.
 pub fn law_words_told_apart()
     ensures law { ToldApart }
 {}

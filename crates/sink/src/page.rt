@@ -1,7 +1,7 @@
 // One page of a paged sink.
 ghost use Rattle.std.specs.Prelude.{◌≡◌, ◌<◌, length, slice_set};
 
-#[derive(Clone, Copy)]
+#[derive(Clone, Copy, PartialEq, Eq, Debug)]
 pub struct Page {
     pub bytes: [u8; 256],
     ghost size: { length bytes ≡ 256 },

@@ -13,6 +13,7 @@ const SIZE: usize = 4096;
 /// Its size is 4,096 bytes. What lies behind the bytes held keeps what it held.
 // A length beside memory of a fixed size, since no sink takes from the heap; and no one generic sink over a buffer or pages,
 // since the two share no more than the trait says.
+// No equality and no Debug, since what lies behind the bytes held is no part of what it says.
 #[derive(Clone, Copy)]
 pub struct PageSink {
     pages: Pages,

@@ -4,6 +4,7 @@ ghost use Rattle.sink.specs.Puts.{Puts};
 
 use refusal::Refusal;
 
+// Two ghosts and no state of both, since each fact tells what one of them becomes, and would take a pair apart.
 pub trait Sink {
     ghost held: { Self → List ℕ };
 

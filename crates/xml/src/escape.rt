@@ -147,14 +147,14 @@ impl<R: EscapeRule> Piece for Escaped<'_, R> {
     ghost bytes = { λ e. escaped (R.chooses e.rule.now e.target) e.value.now };
 
     fn size(&self) -> usize {
-        let mut len: usize = 0;
-        for byte in self.value {
-            len = len.saturating_add(self.piece(*byte).size());
-        }
-        len
+        self.value.iter().fold(
+            0usize,
+            |len, byte| len.saturating_add(self.piece(*byte).size()),
+        )
     }
 
     fn lay(&self, out: &mut [u8], at: usize) -> usize {
+        // A loop, since after a closure that writes to what it borrows a proof knows nothing of that.
         let mut end = at;
         for byte in self.value {
             end = self.piece(*byte).lay(out, end);
@@ -175,25 +175,6 @@ pub fn escaped_len<R: EscapeRule>(value: &[u8], rule: &R, target: Use) -> usize
     escaped.size()
 }
 
-// All bytes of a value, where there is room for them.
-fn escape_all<R: EscapeRule>(
-    out: &mut [u8],
-    at: usize,
-    value: &[u8],
-    rule: &R,
-    target: Use,
-) -> usize
-    requires { at + length (escaped (R.chooses rule.now target) value.now) ≤ length out.old }
-    ensures { Writes target (R.chooses rule.now target) value.now at result out.old out.new }
-{
-    let escaped = Escaped {
-        value,
-        rule,
-        target,
-    };
-    escaped.lay(out, at)
-}
-
 /// Writes a value for a use into `out` from `at` on, each byte that the rule chooses replaced, and answers where it ends.
 /// Where it would end past `out`, nothing is written, under refusal 8.
 /// What stands there then is read back as the value: in a text, in an attribute or as one item of a list, as the use says.
@@ -206,9 +187,14 @@ pub fn escape_into<R: EscapeRule>(
 ) -> Result<usize, Refusal>
     ensures escapes { Escapes target (R.chooses rule.now target) value.now at result out.old out.new }
 {
-    let len = escaped_len(value, rule, target);
-    if out.len() < at.saturating_add(len) {
+    // Value, rule and use come one by one, as a caller names them; below here they are one `Escaped`.
+    let escaped = Escaped {
+        value,
+        rule,
+        target,
+    };
+    if out.len() < at.saturating_add(escaped.size()) {
         return Err(Refusal::Stage);
     }
-    Ok(escape_all(out, at, value, rule, target))
+    Ok(escaped.lay(out, at))
 }

@@ -1,5 +1,6 @@
 // Edges of text, names and escaping.
 use crate::{QuoteLevel, Use, XmlName, escape_into, escaped_len, well_formed};
+use refusal::Refusal;
 use std::test::Fail;
 
 // Bytes, and the length of their longest beginning of whole characters where they are not well-formed.
@@ -36,10 +37,7 @@ fn texts(rt: HostRuntime) {
                 assert_eq!(rt; text.as_bytes(), bytes);
                 assert_eq!(rt; whole, None);
             }
-            Err(refusal) => {
-                assert_eq!(rt; refusal.number(), 2);
-                assert_eq!(rt; Some(refusal.offset()), whole);
-            }
+            Err(refusal) => assert_eq!(rt; Some(refusal), whole.map(Refusal::Bytes)),
         }
     }
 }
@@ -48,8 +46,7 @@ fn texts(rt: HostRuntime) {
 fn a_character_cut_short(rt: HostRuntime) {
     let map = b"ab\xF0\x9F\x97\xBAc";
     for end in 3..6 {
-        let refused = well_formed(&map[0..end]).err();
-        assert_eq!(rt; refused.map(|refusal| refusal.offset()), Some(2));
+        assert_eq!(rt; well_formed(&map[0..end]).err(), Some(Refusal::Bytes(2)));
     }
     assert!(rt; well_formed(&map[0..6]).is_ok());
     assert!(rt; well_formed(&map[0..2]).is_ok());
@@ -141,28 +138,25 @@ fn name_characters(rt: HostRuntime) -> Result<(), Fail> {
         let behind = format!(in rt.alloc(); "a{c}")?;
         let (alone, inside) = match kind {
             Kind::Start => (None, None),
-            Kind::Inside => (Some((5, 0)), None),
-            Kind::Neither => (Some((5, 0)), Some((5, 1))),
+            Kind::Inside => (Some(Refusal::Name(0)), None),
+            Kind::Neither => (Some(Refusal::Name(0)), Some(Refusal::Name(1))),
         };
-        assert_eq!(rt; fault(c), alone, "{}", c);
-        assert_eq!(rt; fault(behind.as_str()), inside, "{}", c);
+        assert_eq!(rt; XmlName::try_from(*c).err(), alone, "{}", c);
+        assert_eq!(rt; XmlName::try_from(behind.as_str()).err(), inside, "{}", c);
     }
     Ok(())
 }
 
-// Number and offset where a text is no name.
-fn fault(name: &str) -> Option<(u8, usize)> {
-    let refused = XmlName::try_from(name).err();
-    refused.map(|refusal| (refusal.number(), refusal.offset()))
-}
-
 #[test]
 fn names(rt: HostRuntime) {
-    assert_eq!(rt; fault(""), Some((5, 0)));
-    assert_eq!(rt; fault("@"), Some((5, 0)));
-    assert_eq!(rt; fault("a b"), Some((5, 1)));
-    assert_eq!(rt; fault("\u{FC}ber-all.7"), None);
-    assert_eq!(rt; fault("\u{1F5FA}\u{B7}\u{D7}"), Some((5, 6)));
+    assert_eq!(rt; XmlName::try_from("").err(), Some(Refusal::Name(0)));
+    assert_eq!(rt; XmlName::try_from("@").err(), Some(Refusal::Name(0)));
+    assert_eq!(rt; XmlName::try_from("a b").err(), Some(Refusal::Name(1)));
+    assert_eq!(rt; XmlName::try_from("\u{FC}ber-all.7").err(), None);
+    assert_eq!(rt;
+        XmlName::try_from("\u{1F5FA}\u{B7}\u{D7}").err(),
+        Some(Refusal::Name(6))
+    );
 }
 
 // All nine bytes and one that stays, for each level and use.
@@ -251,20 +245,22 @@ fn levels_and_uses(rt: HostRuntime) -> Result<(), Fail> {
 }
 
 #[test]
-fn escaping_at_the_edge(rt: HostRuntime) -> Result<(), Fail> {
+fn escaping_at_the_edge(rt: HostRuntime) {
     let level = QuoteLevel::Partial;
     let mut out = [7u8; 9];
     // `&lt;&amp;` fills nine bytes, and not eight
-    match escape_into(&mut out, 1, b"<&", &level, Use::Text) {
-        Ok(_) => return Err(Fail::new("eight bytes are too few")),
-        Err(refusal) => assert_eq!(rt; (refusal.number(), refusal.offset()), (8, 0)),
-    }
+    assert_eq!(rt;
+        escape_into(&mut out, 1, b"<&", &level, Use::Text),
+        Err(Refusal::Stage)
+    );
     assert_eq!(rt; out, [7u8; 9]);
     assert_eq!(rt; escape_into(&mut out, 0, b"<&", &level, Use::Text), Ok(9));
     assert_eq!(rt; &out[0..9], b"&lt;&amp;".as_slice());
     // nothing fits up to the end, and not past it
     assert_eq!(rt; escape_into(&mut out, 9, b"", &level, Use::Text), Ok(9));
-    assert!(rt; escape_into(&mut out, 10, b"", &level, Use::Text).is_err());
+    assert_eq!(rt;
+        escape_into(&mut out, 10, b"", &level, Use::Text),
+        Err(Refusal::Stage)
+    );
     assert_eq!(rt; escape_into(&mut [], 0, b"", &level, Use::Text), Ok(0));
-    Ok(())
 }

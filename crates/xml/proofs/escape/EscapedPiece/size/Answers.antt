@@ -1,24 +1,19 @@
-use Rattle.std.proofs.Common.{◌≡◌, ◌+◌, ◌-◌, ◌^◌, min, length, get_or, take, ap, ◌∙◌, arith, length-append}
-use Rattle.std.proofs.lemmas.List.{take_all}
+use Rattle.std.proofs.Common.{◌≡◌, ◌+◌, ◌-◌, ◌^◌, ◌++◌, [], ◌∷◌, min, length, subst, ap, ◌∙◌, append-nil, arith, rules, length-append}
+use Rattle.std.proofs.lemmas.Fn.{fold_over, slice_gives, fronts}
+use Rattle.std.proofs.lemmas.Grind.{flat_map-append}
 use Rattle.xml.specs.Escaping.{piece, escaped}
-use Rattle.xml.proofs.Pieces.{joined_step}
 use Rattle.xml.proofs.escape.EscapedPiece.size.Goals as goal
-
-pub loop-byte-preserved : goal.loop-byte-preserved
-loop-byte-preserved g c =
-    let chosen = g.R.EscapeRule.chooses c.args.self.now.rule.now c.args.self.now.target in
-    let xs = c.args.self.now.value.now in
-    let i = c.loop-byte.byte-index in
-    let byte = get_or xs i 0 in
-    let more : length (escaped chosen (take (i + 1) xs)) ≡ length (escaped chosen (take i xs)) + length (piece chosen byte) =
-    ap length (joined_step (piece chosen) xs i 0 c.loop-byte-test.true) ∙ length-append (escaped chosen (take i xs)) (piece chosen byte) in
-    let before : c.loop-byte.len ≡ min (length (escaped chosen (take i xs))) (2 ^ 64 - 1) = c.loop-byte.invariant in
-    let this : c.size.result ≡ min (length (piece chosen byte)) (2 ^ 64 - 1) = rw c.piece.ensures at c.size.ensures.value in
-    omega (arith, more, before, this, c.saturating_add-len.ensures)
 
 pub returns : goal.returns
 returns g c =
     let chosen = g.R.EscapeRule.chooses c.args.self.now.rule.now c.args.self.now.target in
-    let l = c.loop-byte in
-    let all = take_all l.byte-index c.args.self.now.value.now c.loop-byte-test.false in
-    record { value = l.invariant ∙ ap (λ xs. min (length (escaped chosen xs)) (2 ^ 64 - 1)) all }
+    record {
+      value = subst (λ l. c.fold.result ≡ min (length (escaped chosen l)) (2 ^ 64 - 1)) c.iter.ensures.rest
+          (fold_over fronts (λ y. y.now) _ (λ ys n. n ≡ min (length (escaped chosen ys)) (2 ^ 64 - 1)) _
+          (λ ys a x b f' j k.
+          let more : length (escaped chosen (ys ++ x.now ∷ [])) ≡ length (escaped chosen ys) + length (piece chosen x.now) =
+          ap length (flat_map-append (piece chosen) ys (x.now ∷ []) ∙ ap (λ l. escaped chosen ys ++ l) (append-nil (piece chosen x.now))) ∙ length-append (escaped chosen ys) (piece chosen x.now) in
+          let step : b ≡ min (a + min (length (piece chosen x.now)) (2 ^ 64 - 1)) (2 ^ 64 - 1) = search rules in
+          (omega (arith, more, j, step), search rules))
+          _ _ _ _ (slice_gives c.iter.result) (omega arith) c.fold.ensures.ran);
+    }

@@ -1,10 +1,11 @@
+use Rattle.std.proofs.Common.{rules}
 use Rattle.xml.specs.Escaping.{Lawful}
 use Rattle.xml.proofs.Written.{writes}
-use Rattle.xml.proofs.escape.escape_all.Goals as goal
+use Rattle.xml.proofs.escape.escape_into.Goals as goal
 
 pub returns : goal.returns
 returns g c =
     let rule = c.args.rule.now in
     let u = c.args.target in
     let law : Lawful u (g.R.EscapeRule.chooses rule u) = record { within = g.met.R.EscapeRule.within rule u; enough = g.met.R.EscapeRule.enough rule u } in
-    writes law c.args.value.now c.args.out.now c.args.at c.lay.result c.lay.new.out c.requires c.lay.ensures.end c.lay.ensures.bytes
+    record { escapes = writes law c.args.value.now c.args.out.now c.args.at c.lay.result c.lay.new.out (search rules) (search rules) (search rules) }
