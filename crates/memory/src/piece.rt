@@ -32,6 +32,7 @@ impl Piece for &[u8] {
     }
 }
 
+// Beside the slice, so that the marks of a tag are pieces as they are written: `*b"</"`.
 impl<const N: usize> Piece for [u8; N] {
     ghost bytes = { λ a. a };
 

@@ -7,7 +7,7 @@
 // - attribute place: the same, as the value of an attribute in the open tag
 // - item place: a text or a variant is one item of a list
 //
-// What a place holds is handed on by the match. That the memory holds some model (`Sound`) is asked of the caller here, and is
+// What a place holds is handed on by the match, where the row reads it. That the memory holds some model (`Sound`) is asked of the caller here, and is
 // always true of a `Writer`, which lends its core to these calls.
 ghost use Rattle.std.specs.Prelude.{◌≡◌, ℕ};
 ghost use Rattle.model.specs.Calls as meant;
@@ -25,10 +25,8 @@ use attributes::{
 use closing::end_record;
 use engine::{Core, check_bytes};
 use fields::{field, string_as_item};
-use model::Place;
-use nests::{
-    end_at_content, end_at_element, end_text_list, row_as_list, row_at_content, row_at_element,
-};
+use model::{Kind, Place};
+use nests::{end_row, row_as_list, row_at_content, row_at_element};
 use records::{
     record_at_content, record_at_element, variant_at_content, variant_record_at_content,
     variant_row_at_content, wrapped_at_content,
@@ -40,6 +38,7 @@ use rows::{
 };
 use xml::{EscapeRule, Unescaped};
 
+// Beside `begin_field`: each asks for its own place and is a step of its own, and no more than the test is alike.
 /// Opens a root record, at the idle place alone.
 pub fn begin(core: &mut Core<'_>, name: &[u8]) -> Result<(), Refusal>
     requires { Safe (mem core.old) }
@@ -71,10 +70,10 @@ pub fn end_at(core: &mut Core<'_>) -> Result<(), Refusal>
 {
     match core.place {
         Place::Field => end_record(core),
-        Place::Element(from) => end_at_element(core, from),
-        Place::Content(texts) => end_at_content(core, texts),
-        Place::TextItem(written) => end_text_list(core, written),
-        Place::AttributeItem(written) => end_attribute_list(core, written),
+        Place::Element(_) => end_row(core, Kind::Named),
+        Place::Content(_) => end_row(core, Kind::Content),
+        Place::TextItem(_) => end_row(core, Kind::List),
+        Place::AttributeItem(_) => end_attribute_list(core),
         _ => Err(Refusal::Order),
     }
 }
@@ -108,17 +107,15 @@ pub fn take_value<R: EscapeRule>(core: &mut Core<'_>, value: &Value<'_, R>) -> R
         (Place::Content(texts), Value::Text(value, rule)) => {
             text_at_content(core, texts, Unescaped { value, rule })
         }
-        (Place::Content(texts), Value::Nothing) => none_at_content(core, texts),
-        (Place::Content(texts), Value::Variant(name, _)) => variant_at_content(core, texts, name),
+        (Place::Content(_), Value::Nothing) => none_at_content(core),
+        (Place::Content(_), Value::Variant(name, _)) => variant_at_content(core, name),
         (Place::Content(texts), Value::Wrapped(name)) => wrapped_at_content(core, texts, name),
-        (Place::Content(texts), Value::Row) => row_at_content(core, texts),
+        (Place::Content(_), Value::Row) => row_at_content(core),
         (Place::Content(texts), Value::VariantRow(name)) => {
             variant_row_at_content(core, texts, name)
         }
-        (Place::Content(texts), Value::Record(name)) => record_at_content(core, texts, name),
-        (Place::Content(texts), Value::VariantRecord(name)) => {
-            variant_record_at_content(core, texts, name)
-        }
+        (Place::Content(_), Value::Record(name)) => record_at_content(core, name),
+        (Place::Content(_), Value::VariantRecord(name)) => variant_record_at_content(core, name),
 
         (Place::Text, Value::Variant(value, rule)) => {
             variant_at_text(core, Unescaped { value, rule })

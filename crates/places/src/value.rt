@@ -4,7 +4,7 @@ ghost use Rattle.places.specs.Values.{string};
 
 /// The value of a field, or an item of a row or a list. A text, and a variant's name where it may be written as one, brings
 /// its own escaping rule.
-#[derive(Drop)]
+#[derive(Clone, Copy, PartialEq, Eq, Debug, Drop)]
 pub enum Value<'a, R> {
     Text(&'a [u8], R),
     /// `none`, the missing value

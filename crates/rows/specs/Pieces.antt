@@ -1,5 +1,5 @@
 -- The bytes of whole elements as the writer's memory gives them, and what a step that writes them answers. Assumes nothing.
-use Rattle.std.specs.Prelude.{◌≡◌, ℕ, ◌+◌, ◌<◌, ◌≤◌, Bool, not, ◌&&◌, List, ◌++◌, length, Ok, Err, codes, Result}
+use Rattle.std.specs.Prelude.{◌≡◌, ℕ, ◌+◌, ◌<◌, ◌≤◌, Bool, List, ◌++◌, length, Ok, Err, codes, Result}
 use Rattle.refusal.specs.declared.Refusal.{Refusal}
 use Rattle.refusal.specs.declared.Refusal.TheVariants.{Stage}
 use Rattle.style.specs.declared.result.WriteResult.{WriteResult}

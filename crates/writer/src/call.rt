@@ -2,7 +2,7 @@
 use places::Value;
 
 /// A call on a writer.
-#[derive(Drop)]
+#[derive(Clone, Copy, PartialEq, Eq, Debug, Drop)]
 pub enum Call<'a, R> {
     Open(&'a [u8]),
     Field(&'a [u8]),

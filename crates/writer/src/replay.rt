@@ -19,7 +19,7 @@ use xml::EscapeRule;
 /// How a call is answered.
 pub type Answer = Result<(), Refusal>;
 
-// After an accepted finish or abandon the ticket has done its work.
+// After an accepted finish or abandon the ticket has done its work. Beside the ticket's own `spent_on`, since a run may hold none.
 fn spent_on(answer: Answer, held: Option<Ticket>) -> (Answer, Option<Ticket>)
     ensures answer { result.0 ≡ answer }
 {

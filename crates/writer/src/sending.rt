@@ -16,7 +16,7 @@ pub fn send<S: Sink>(core: &mut Core<'_>, sink: &mut S) -> Result<(), Refusal>
     if core.place != Place::Complete {
         return Err(Refusal::Order);
     }
-    sink.put(core.stage.part(0, core.stage.used))?;
+    sink.put(core.stage.tail(0))?;
     core.clear();
     Ok(())
 }

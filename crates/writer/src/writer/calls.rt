@@ -26,13 +26,6 @@ impl Writer<'_> {
         self.value(&value)
     }
 
-    // Opens a root record.
-    pub(crate) fn begin_record(&mut self, name: &[u8]) -> Result<(), Refusal>
-        ensures does { (room : ℕ) → Does (call_open name.now) room result (mem self.old.core) (mem self.new.core) }
-    {
-        begin(&mut self.core, name)
-    }
-
     // Drops the record, wherever it stands.
     pub(crate) fn drop_record(&mut self) -> Result<(), Refusal>
         ensures does { (room : ℕ) → Does call_abandon room result (mem self.old.core) (mem self.new.core) }
@@ -51,7 +44,7 @@ impl Writer<'_> {
     pub fn open(&mut self, name: &[u8]) -> Result<Ticket, Refusal>
         ensures does { (room : ℕ) → Does (call_open name.now) room (unit_of result) (mem self.old.core) (mem self.new.core) }
     {
-        self.begin_record(name)?;
+        begin(&mut self.core, name)?;
         Ok(Ticket::new())
     }
 

@@ -8,15 +8,15 @@ use Rattle.writer.proofs.sending.send.Goals as goal
 pub returns-in_err-put : goal.returns-in_err-put
 returns-in_err-put g c =
     let w = mem c.args.core.now in
-    let whole = c.part.ensures.value ∙ all_of_it w.stage in
+    let whole = c.tail.ensures.value ∙ all_of_it w.stage in
     let at : w.place ≡ Complete = search rules in
     let p = err_from_is_err_and c.from_residual.result c.from_residual.ensures.1 in
     rw (p.1, p.2)
-    (record { serves = sent_full w (g.S.Sink.room c.args.sink.now) c.requires at c.part.result.now whole _ (g.S.Sink.held c.args.sink.now) (g.S.Sink.held c.put.new.self) (g.S.Sink.room c.put.new.self) c.in_err-put.ensures.puts })
+    (record { serves = sent_full w (g.S.Sink.room c.args.sink.now) c.requires at c.tail.result.now whole _ (g.S.Sink.held c.args.sink.now) (g.S.Sink.held c.put.new.self) (g.S.Sink.room c.put.new.self) c.in_err-put.ensures.puts })
 
 pub returns : goal.returns
 returns g c =
     let w = mem c.args.core.now in
-    let whole = c.part.ensures.value ∙ all_of_it w.stage in
+    let whole = c.tail.ensures.value ∙ all_of_it w.stage in
     let at : w.place ≡ Complete = search rules in
-    record { serves = sent_whole w (g.S.Sink.room c.args.sink.now) c.requires at c.part.result.now whole (g.S.Sink.held c.args.sink.now) (g.S.Sink.held c.put.new.self) (g.S.Sink.room c.put.new.self) (mem c.clear.new.self) c.in_ok-put.ensures.puts c.clear.ensures.memory }
+    record { serves = sent_whole w (g.S.Sink.room c.args.sink.now) c.requires at c.tail.result.now whole (g.S.Sink.held c.args.sink.now) (g.S.Sink.held c.put.new.self) (g.S.Sink.room c.put.new.self) (mem c.clear.new.self) c.in_ok-put.ensures.puts c.clear.ensures.memory }

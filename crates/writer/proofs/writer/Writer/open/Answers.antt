@@ -2,7 +2,7 @@ use Rattle.model.specs.Calls.{call_open}
 use Rattle.engine.specs.Memory.{mem}
 use Rattle.places.proofs.Standing.{safe}
 use Rattle.writer.proofs.Lasting.{lasts}
-use Rattle.writer.proofs.writer.Writer.begin_record.Goals as goal
+use Rattle.writer.proofs.writer.Writer.open.Goals as goal
 
 pub begin-requires : goal.begin-requires
 begin-requires c = safe (mem c.args.self.now.core) c.args.self.now.sound c.args.self.now.sizes
