@@ -4,5 +4,5 @@
 mod ends;
 mod rows;
 
-pub use ends::{end_at_content, end_at_element, end_text_list};
+pub use ends::end_row;
 pub use rows::{row_as_list, row_at_content, row_at_element, take_frame};

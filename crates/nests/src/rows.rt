@@ -1,5 +1,5 @@
 // Rows and lists open: each takes a frame.
-ghost use Rattle.std.specs.Prelude.{◌≡◌, ℕ, ◌<◌};
+ghost use Rattle.std.specs.Prelude.{◌≡◌, ℕ, ◌<◌, Bool};
 ghost use Rattle.model.specs.declared.place.Place.TheVariants.{Element as ElementPlace, Content as ContentPlace};
 ghost use Rattle.model.specs.Calls.{call_value, val_row};
 ghost use Rattle.engine.specs.Memory.{mem, Safe};
@@ -15,9 +15,7 @@ pub fn take_frame(core: &mut Core<'_>, frame: Frame, place: Place) -> Result<(),
     requires { Safe (mem core.old) }
     ensures pushes { Pushes result frame place (mem core.old) (mem core.new) }
 {
-    if core.frames.room() == 0 {
-        return Err(Refusal::Depth);
-    }
+    core.frame_free()?;
     core.push(frame);
     core.place = place;
     Ok(())
@@ -35,17 +33,17 @@ pub fn row_at_element(core: &mut Core<'_>, from: usize) -> Result<(), Refusal>
 }
 
 /// A row at a content place: its items stand among the children.
-pub fn row_at_content(core: &mut Core<'_>, texts: bool) -> Result<(), Refusal>
+pub fn row_at_content(core: &mut Core<'_>) -> Result<(), Refusal>
     requires safe { Safe (mem core.old) }
     requires open { 0 < core.old.frames.used }
-    requires place { core.old.place ≡ ContentPlace texts }
-    ensures does { (room : ℕ) → Does (call_value val_row) room result (mem core.old) (mem core.new) }
+    ensures does { (room : ℕ) (texts : Bool) → core.old.place ≡ ContentPlace texts → Does (call_value val_row) room result (mem core.old) (mem core.new) }
 {
     let frame = Frame::content_row(core.top().flag, core.names.used);
     let texts = !core.wordy;
     take_frame(core, frame, Place::Content(texts))
 }
 
+// Beside the list at the attribute place and that of a row of variants: each is a row of the places, and all share `take_frame`.
 /// A row at the text place or at the simple place: a list, which is one text.
 pub fn row_as_list(core: &mut Core<'_>) -> Result<(), Refusal>
     requires safe { Safe (mem core.old) }

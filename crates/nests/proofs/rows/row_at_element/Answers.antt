@@ -6,4 +6,4 @@ use Rattle.nests.proofs.rows.row_at_element.Goals as goal
 pub returns : goal.returns
 returns c =
     let pushes = rw c.named_row-frame.ensures.value at c.take_frame.ensures.pushes in
-    record { does = λ room m lay. element_row room m (mem c.args.core.now) (mem c.take_frame.new.core) c.take_frame.result c.requires.safe lay c.args.from c.top.result.flag c.requires.place (ap (λ f. f.flag) c.top.ensures.value) pushes }
+    record { does = λ room. element_row room (mem c.args.core.now) (mem c.take_frame.new.core) c.take_frame.result c.requires.safe c.args.from c.top.result.flag c.requires.place (ap (λ f. f.flag) c.top.ensures.value) pushes }
