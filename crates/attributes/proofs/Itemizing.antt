@@ -7,25 +7,25 @@ use Rattle.xml.specs.declared.escape.Use.TheVariants.{AttributeItem as attribute
 use Rattle.xml.specs.Escaping.{escaped}
 use Rattle.model.specs.declared.place.Place.TheVariants.{Field, AttributeItem}
 use Rattle.model.specs.Strings.{utf8}
-use Rattle.model.specs.Calls.{Rule, call_value, call_end}
+use Rattle.model.specs.Calls.{Rule, Value, call_value, call_end}
 use Rattle.model.specs.Marks.{flatten}
-use Rattle.model.specs.Model.{Level, Outer, Quote, several, between, quote}
-use Rattle.model.specs.Step.{still, gap, quoted_item, put_several, requoted_if, with_attribute, attribute}
+use Rattle.model.specs.Model.{Level, Outer, several, between, quote}
+use Rattle.model.specs.Step.{still, gap, quoted_item, requoted_if, with_attribute, attribute}
 use Rattle.model.specs.Layout.{pending, tag_end, record_frame, outer_frames, list_frame, quote_frames}
-use Rattle.model.specs.Grounds.{value_string, is_text, no_item}
-use Rattle.model.specs.Table.{verdict, next, or_stay}
+use Rattle.model.specs.Grounds.{value_string, is_text}
+use Rattle.model.specs.Table.{verdict, or_stay}
 use Rattle.engine.specs.Memory.{Mem, Safe, in_tag, placed, popped}
-use Rattle.engine.specs.Lays.{Lays, Beyond, setting, Told, Does}
+use Rattle.engine.specs.Lays.{IsString, Lays, Beyond, setting, Told, Does}
 use Rattle.engine.proofs.Fronts.{front_as, past_same, past_set}
 use Rattle.engine.proofs.Tags.{Tag, tag_grows, tag_past}
-use Rattle.engine.proofs.Telling.{Clear, Small, told_small}
+use Rattle.engine.proofs.Telling.{told_small}
 use Rattle.engine.proofs.Spots.{on_attribute_item}
 use Rattle.nests.proofs.Leaving.{front_pop, end_clear, end_small}
 use Rattle.nests.proofs.Pushing.{lays_placed}
-use Rattle.attributes.specs.Inserts.{Inserts, string_value}
+use Rattle.attributes.specs.Inserts.{Inserts}
 use Rattle.attributes.proofs.Quotes.{quote_tag, quote_depth, quote_full, inserts_told, holds_attribute, stage_attribute}
 use Rattle.attributes.proofs.Standing.{several_frame}
-use Rattle.attributes.proofs.Valuing.{string_is, string_small}
+use Rattle.attributes.proofs.Valuing.{alike}
 
 -- more of the list's value
 several_more : (k s x : List ℕ) (t : Bool) → pending (several k s t) ++ x ≡ pending (several k (s ++ x) true)
@@ -41,52 +41,31 @@ several_whole k s t = go (codes " ") (codes "=\"") (codes "\"")
     go : (a b c : List ℕ) → (a ++ (k ++ (b ++ s))) ++ c ≡ a ++ (k ++ (b ++ (s ++ c)))
     go a b c = simp append_assoc
 
--- what the model says of a text and of a variant's name as items
-string_item : (text : Bool) (ρ : Rule) (x : List ℕ) → no_item (string_value text ρ x) ≡ false
-string_item true ρ x = refl
-string_item false ρ x = refl
-
-string_put : (text : Bool) (ρ : Rule) (x k s : List ℕ) (t : Bool) → put_several k s t (string_value text ρ x) ≡ Some (quoted_item k s t (ρ.chooses attribute_item_use) x)
-string_put true ρ x k s t = refl
-string_put false ρ x k s t = refl
-
 -- an item that is not empty
 item_some : (k s x : List ℕ) (t : Bool) (chosen : ℕ → Bool) → (length x ≡ 0 → ⊥) → quoted_item k s t chosen x ≡ still (several k (s ++ (gap t ++ escaped chosen x)) true)
 item_some k s [] t chosen e = absurd (e refl)
 item_some k s (b ∷ x) t chosen e = refl
 
-module _ (room : ℕ) (w : Mem) (t : Bool) (at : w.place ≡ AttributeItem t) (ρ : Rule) (x : List ℕ) (text : Bool) where
-  -- no ground but the stage's size is left to refuse it
-  item_clear : (k s : List ℕ) (l : Level) (ls : List Outer) → utf8 x ≡ true → Clear (call_value (string_value text ρ x)) (quote (several k s t) l ls)
-  item_clear k s l ls fine =
-      let c = string_value text ρ x in
-      record { order = refl; bytes = not_from_true (utf8 (value_string c)) (ap utf8 (string_is text ρ x) ∙ fine); shape = string_item text ρ x; text = and_right (is_text c) false refl; name = refl }
-
-  item_small : (k s : List ℕ) (l : Level) (ls : List Outer) → Small (call_value (string_value text ρ x)) (quote (several k s t) l ls) w
-  item_small k s l ls = record { brought = refl; takes = string_small text ρ x; handed = refl }
-
-  item_next : (k s : List ℕ) (l : Level) (ls : List Outer) (q : Quote) → quoted_item k s t (ρ.chooses attribute_item_use) x ≡ still q → next w.form (call_value (string_value text ρ x)) (quote (several k s t) l ls) ≡ quote q l ls
-  item_next k s l ls q e =
-      let m = quote (several k s t) l ls in
-      ap (λ o. or_stay m (requoted_if l ls o)) (string_put text ρ x k s t ∙ ap Some e)
-
-  -- a space where an item was written before, and the item
-  pub item_written : (v : Mem) (r : Result (Unit {0}) Refusal) → Safe w → utf8 x ≡ true → (length x ≡ 0 → ⊥) → Inserts r (w.frames.used - 2) (gap t ++ escaped (ρ.chooses attribute_item_use) x) (AttributeItem true) w v → Does (call_value (string_value text ρ x)) room r w v
-  item_written v r safe fine some y m lay =
-      on_attribute_item (λ y. Told (verdict (setting w) room (call_value (string_value text ρ x)) y) r w v) w t m lay at
-      (λ k s l ls z.
-      let i = w.indentation in
-      let h = z.holds in
-      let n = w.frames.used - 2 in
-      let bs = gap t ++ escaped (ρ.chooses attribute_item_use) x in
-      let q = several k (s ++ bs) true in
-      let more = several_more k s bs t in
-      inserts_told room (call_value (string_value text ρ x)) (several k s t) l ls w v n bs r (AttributeItem true) (quote q l ls)
-      (item_clear k s l ls fine) (item_small k s l ls) safe z (several_frame k s t l ls w h) (item_next k s l ls q (item_some k s x t (ρ.chooses attribute_item_use) some)) refl
-      (ap (λ a. tag_end i l ls a ++ flatten i l.body.kids) (sym more))
-      (λ g.
-      let g' = subst (λ a. Tag (in_tag n bs w) l ls a (list_frame ∷ [])) more g in
-      record { stage = g'.stage; names = h.names; frames = g'.frames; records = h.records; wordy = h.wordy; fit = h.fit }) y)
+-- a space where an item was written before, and the item
+pub item_written : (room : ℕ) (w v : Mem) (t : Bool) (c : Value) (ρ : Rule) (x : List ℕ) (r : Result (Unit {0}) Refusal) → IsString c ρ x → w.place ≡ AttributeItem t → Safe w → utf8 x ≡ true → (length x ≡ 0 → ⊥) → Inserts r (w.frames.used - 2) (gap t ++ escaped (ρ.chooses attribute_item_use) x) (AttributeItem true) w v → Does (call_value c) room r w v
+item_written room w v t c ρ x r is at safe fine some y m lay =
+    on_attribute_item (λ a. Told (verdict (setting w) room (call_value c) a) r w v) w t m lay at
+    (λ k s l ls z.
+    let i = w.indentation in
+    let h = z.holds in
+    let a = alike c ρ x is in
+    let n = w.frames.used - 2 in
+    let chosen = ρ.chooses attribute_item_use in
+    let bs = gap t ++ escaped chosen x in
+    let here = quote (several k s t) l ls in
+    let more = several_more k s bs t in
+    inserts_told room (call_value c) (several k s t) l ls w v n bs r (AttributeItem true) (quote (several k (s ++ bs) true) l ls)
+    (record { order = refl; bytes = not_from_true (utf8 (value_string c)) (ap utf8 a.string ∙ fine); shape = a.item; text = and_right (is_text c) false refl; name = refl }) (record { brought = refl; takes = a.small; handed = refl })
+    safe z (several_frame k s t l ls w h) (ap (λ o. or_stay here (requoted_if l ls o)) (a.several k s t ∙ ap Some (item_some k s x t chosen some))) refl
+    (ap (λ p. tag_end i l ls p ++ flatten i l.body.kids) (sym more))
+    (λ g.
+    let g' = subst (λ p. Tag (in_tag n bs w) l ls p (list_frame ∷ [])) more g in
+    record { stage = g'.stage; names = h.names; frames = g'.frames; records = h.records; wordy = h.wordy; fit = h.fit }) y)
 
 -- the list's frame is free again
 tag_left : (w : Mem) (l : Level) (ls : List Outer) (p : List ℕ) → Tag w l ls p (list_frame ∷ []) → Tag (popped w) l ls p []

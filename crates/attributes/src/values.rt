@@ -1,9 +1,9 @@
 // The attribute place: a value goes in at the end of the open tag, and its closing quote behind it.
 ghost use Rattle.std.specs.Prelude.{◌≡◌, ℕ, ◌<◌, ◌≤◌};
 ghost use Rattle.model.specs.declared.place.Place.TheVariants.{Attribute as AttributePlace};
-ghost use Rattle.model.specs.Calls.{Rule, call_value, val_text, val_none, val_variant, val_row};
+ghost use Rattle.model.specs.Calls.{Rule, Value, call_value, val_none, val_row};
 ghost use Rattle.engine.specs.Memory.{mem, Safe, top_frame};
-ghost use Rattle.engine.specs.Lays.{Does};
+ghost use Rattle.engine.specs.Lays.{IsString, Does};
 
 use crate::tag::insert;
 use engine::{Core, check_bytes};
@@ -33,8 +33,7 @@ pub fn string_at_attribute<R: EscapeRule>(
     requires open { 0 < core.old.frames.used }
     requires tag { (top_frame (mem core.old)).tag ≤ core.old.stage.used }
     requires place { core.old.place ≡ AttributePlace }
-    ensures text { (room : ℕ) (ρ : Rule) → ρ.chooses ≡ R.chooses string.entry.rule.now → Does (call_value (val_text ρ string.entry.value.now)) room result (mem core.old) (mem core.new) }
-    ensures variant { (room : ℕ) (ρ : Rule) → ρ.chooses ≡ R.chooses string.entry.rule.now → Does (call_value (val_variant ρ string.entry.value.now)) room result (mem core.old) (mem core.new) }
+    ensures does { (room : ℕ) (ρ : Rule) (c : Value) → ρ.chooses ≡ R.chooses string.entry.rule.now → IsString c ρ string.entry.value.now → Does (call_value c) room result (mem core.old) (mem core.new) }
 {
     check_bytes(string.value)?;
     let at = core.frames.used - 1;

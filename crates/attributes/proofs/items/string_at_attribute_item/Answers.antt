@@ -1,4 +1,4 @@
-use Rattle.std.proofs.Common.{◌≡◌, ◌-◌, true, false, ◌++◌, length, rules}
+use Rattle.std.proofs.Common.{◌≡◌, ◌-◌, true, ◌++◌, length, rules}
 use Rattle.xml.specs.declared.escape.Use.TheVariants.{AttributeItem as attribute_item_use}
 use Rattle.model.specs.declared.place.Place.TheVariants.{AttributeItem}
 use Rattle.model.specs.Step.{gap}
@@ -19,10 +19,7 @@ returns g c =
     let is = c.escaped-item.ensures in
     let inserts = rw (c.gap.ensures.value, is.value, is.rule, is.target) at c.insert.ensures.inserts in
     record {
-      text = λ room ρ e.
-          item_written room w t c.requires.place ρ s true v r c.requires.safe c.in_ok-check_bytes.ensures.checked some
-          (by_rule (λ x. Inserts r (w.frames.used - 2) (gap t ++ x) (AttributeItem true) w v) ρ attribute_item_use s e inserts);
-      variant = λ room ρ e.
-          item_written room w t c.requires.place ρ s false v r c.requires.safe c.in_ok-check_bytes.ensures.checked some
-          (by_rule (λ x. Inserts r (w.frames.used - 2) (gap t ++ x) (AttributeItem true) w v) ρ attribute_item_use s e inserts);
+      does = λ room ρ x e d.
+          item_written room w v t x ρ s r d c.requires.place c.requires.safe c.in_ok-check_bytes.ensures.checked some
+          (by_rule (λ z. Inserts r (w.frames.used - 2) (gap t ++ z) (AttributeItem true) w v) ρ attribute_item_use s e inserts);
     }

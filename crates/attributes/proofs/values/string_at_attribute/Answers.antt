@@ -1,4 +1,4 @@
-use Rattle.std.proofs.Common.{◌-◌, true, false, ◌++◌, codes}
+use Rattle.std.proofs.Common.{◌-◌, ◌++◌, codes}
 use Rattle.xml.specs.declared.escape.Use.TheVariants.{Attribute as attribute_use}
 use Rattle.model.specs.declared.place.Place.TheVariants.{Field}
 use Rattle.engine.specs.Memory.{mem}
@@ -16,10 +16,7 @@ returns g c =
     let is = c.escaped-value.ensures in
     let inserts = rw (is.value, is.rule, is.target) at c.insert.ensures.inserts in
     record {
-      text = λ room ρ e.
-          attribute_string room w v ρ s true r c.requires.place c.requires.safe c.in_ok-check_bytes.ensures.checked
-          (by_rule (λ x. Inserts r (w.frames.used - 1) (x ++ codes "\"") Field w v) ρ attribute_use s e inserts);
-      variant = λ room ρ e.
-          attribute_string room w v ρ s false r c.requires.place c.requires.safe c.in_ok-check_bytes.ensures.checked
-          (by_rule (λ x. Inserts r (w.frames.used - 1) (x ++ codes "\"") Field w v) ρ attribute_use s e inserts);
+      does = λ room ρ x e d.
+          attribute_string room w v x ρ s r d c.requires.place c.requires.safe c.in_ok-check_bytes.ensures.checked
+          (by_rule (λ z. Inserts r (w.frames.used - 1) (z ++ codes "\"") Field w v) ρ attribute_use s e inserts);
     }
