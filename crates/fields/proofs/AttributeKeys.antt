@@ -1,16 +1,18 @@
 -- A field begins whose value is an attribute: its name stands at the end of the open tag. Assumes nothing.
-use Rattle.std.proofs.Common.{◌≡◌, ℕ, ◌+◌, ◌-◌, ◌≤◌, true, List, [], ◌∷◌, ◌++◌, length, get_or, take, drop, Some, None, Ok, IsUtf8, rules, sym, refl, ap, subst, arith}
+use Rattle.std.proofs.Common.{◌≡◌, ℕ, ◌+◌, ◌-◌, ◌<◌, ◌≤◌, true, List, [], ◌∷◌, ◌++◌, length, get_or, take, drop, Some, None, Ok, Err, IsUtf8, rules, sym, refl, ap, subst, arith}
 use lib.Utf8.{encodes}
 use Rattle.std.proofs.lemmas.Grind.{common_steps}
 use Rattle.std.proofs.lemmas.List.{length-append, length_push}
 use Rattle.std.proofs.lemmas.Str.{IsUtf8-append, IsUtf8-from_ascii}
+use Rattle.refusal.specs.declared.Refusal.TheVariants.{Stage}
 use Rattle.xml.specs.Names.{name_fault}
 use Rattle.xml.proofs.Naming.{faults_of}
 use Rattle.model.specs.declared.place.Place.TheVariants.{Field, Attribute}
 use Rattle.model.specs.Strings.{utf8}
 use Rattle.model.specs.Calls.{call_field}
+use Rattle.model.specs.Marks.{flatten}
 use Rattle.model.specs.Model.{Level, Outer, single, between, quote}
-use Rattle.model.specs.Layout.{pending, record_frame, outer_frames}
+use Rattle.model.specs.Layout.{pending, tag_end, record_frame, outer_frames}
 use Rattle.model.specs.Grounds.{behind}
 use Rattle.model.specs.Table.{verdict}
 use Rattle.model.proofs.Spelling.{utf8_true, utf8_from, well_formed_key}
@@ -18,8 +20,8 @@ use Rattle.engine.specs.Memory.{Mem, Safe, placed, in_tag}
 use Rattle.engine.specs.Lays.{Lays, Holds, Beyond, setting, Told, Does}
 use Rattle.engine.proofs.Fronts.{front_length, past_same}
 use Rattle.engine.proofs.Spots.{on_field}
-use Rattle.engine.proofs.Tags.{Tag, tag_grows, tag_past, tag_frames_past}
-use Rattle.engine.proofs.Telling.{Clear, Small, told_small}
+use Rattle.engine.proofs.Tags.{Tag, tag_end_more, tag_grows, tag_past, tag_frames_past}
+use Rattle.engine.proofs.Telling.{Clear, Small, told_small, told_small_full}
 use Rattle.fields.proofs.ChildKeys.{key_clear}
 
 -- what follows the '@' of a well-formed key is well-formed
@@ -86,3 +88,14 @@ module _ (n : List ℕ) (room : ℕ) (w : Mem) (safe : Safe w) (at : w.place ≡
       (λ l ls y.
       told_small w room (call_field (64 ∷ n)) (between l ls) (placed Attribute u) (clear l ls) (small l ls) safe y.holds (subst (λ z. Lays (quote (single n) l ls) (placed Attribute z)) (sym is) (lays_attribute n l ls w fits y.holds))
       (subst (λ z. Beyond w (placed Attribute z)) (sym is) (beyond_attribute n l ls w fits y.holds)))
+
+  -- there is no room for it
+  pub attribute_full : length w.stage.all < w.stage.used + length (pending (single n)) → Does (call_field (64 ∷ n)) room (Err Stage) w w
+  attribute_full h m lay =
+      on_field (λ y. Told (verdict (setting w) room (call_field (64 ∷ n)) y) (Err Stage) w w) w m lay at
+      (λ l ls y.
+      let i = w.indentation in
+      let p = pending (single n) in
+      let kids = flatten i l.body.kids in
+      told_small_full w room (call_field (64 ∷ n)) (between l ls) (clear l ls) (small l ls) safe y.holds
+      (omega (arith, h, front_length w.stage (tag_end i l ls [] ++ kids) y.holds.stage, length-append (tag_end i l ls []) kids, length-append (tag_end i l ls p) kids, length-append (tag_end i l ls []) p, ap length (tag_end_more i l ls [] p))))

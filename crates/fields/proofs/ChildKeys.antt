@@ -1,9 +1,8 @@
 -- A field begins whose value goes among the children. Assumes nothing.
-use Rattle.std.proofs.Common.{◌≡◌, ℕ, ◌+◌, ◌<◌, ◌≤◌, true, false, cond, List, [], ◌∷◌, ◌++◌, length, None, Ok, Err, sym, refl, ap, ◌∙◌, subst, arith}
+use Rattle.std.proofs.Common.{◌≡◌, ℕ, ◌+◌, ◌≤◌, true, false, cond, List, [], ◌∷◌, ◌++◌, length, None, Ok, Result, sym, refl, ap, ◌∙◌, subst, arith}
 use Rattle.std.proofs.lemmas.Grind.{common_steps}
 use Rattle.std.proofs.lemmas.Bool.{not_from_true, ne_eqb}
-use Rattle.refusal.specs.declared.Refusal.TheVariants.{Stack}
-use Rattle.xml.specs.Names.{name_fault}
+use Rattle.refusal.specs.declared.Refusal.{Refusal}
 use Rattle.model.specs.declared.place.Place.TheVariants.{Field, Element, Content, Text}
 use Rattle.model.specs.Strings.{utf8}
 use Rattle.model.specs.Calls.{key_attribute, key_text, key_value, key_element, key, is_text_name, is_value_name, call_field}
@@ -12,10 +11,12 @@ use Rattle.model.specs.Step.{field}
 use Rattle.model.specs.Grounds.{key_fault}
 use Rattle.model.specs.Table.{verdict, key_name}
 use Rattle.engine.specs.Memory.{Mem, Safe, placed, name_put}
-use Rattle.engine.specs.Lays.{Lays, Holds, Beyond, setting, Told, Does}
-use Rattle.engine.proofs.Fronts.{front_length, front_grown, begins_more, past_same, past_grown}
+use Rattle.engine.specs.Lays.{Lays, Holds, setting, Told, Does}
+use Rattle.engine.specs.Opening.{Awaits}
+use Rattle.engine.proofs.Fronts.{front_length, front_grown, begins_more}
 use Rattle.engine.proofs.Spots.{on_field}
-use Rattle.engine.proofs.Telling.{Clear, told_ok, depth_unasked, sink_unasked}
+use Rattle.engine.proofs.Telling.{Clear}
+use Rattle.engine.proofs.Begins.{awaits_told}
 
 -- only a name can still be at fault
 pub key_clear : (k : List ℕ) (l : Level) (ls : List Outer) → utf8 k ≡ true → key_fault (key k) ≡ None → Clear (call_field k) (between l ls)
@@ -43,18 +44,12 @@ module _ (k : List ℕ) (room : ℕ) (w : Mem) (safe : Safe w) (at : w.place ≡
   pub value_key : is_text_name k ≡ false → is_value_name k ≡ true → Does (call_field k) room (Ok tt) w (placed (Content true) w)
   value_key t v = grind (arith, common_steps)
 
-  -- a name for which there is no room
-  pub key_full : is_text_name k ≡ false → is_value_name k ≡ false → name_fault k ≡ None → length w.names.all < w.names.used + length k → Does (call_field k) room (Err Stack) w w
-  key_full t v f full = grind (arith, common_steps)
-
   -- neither of the two key words: the name of an element
-  pub element_key : is_text_name k ≡ false → is_value_name k ≡ false → name_fault k ≡ None → (u : Mem) → w.names.used + length k ≤ length w.names.all → u ≡ name_put k w → Does (call_field k) room (Ok tt) w (placed (Element w.names.used) u)
-  element_key t v f u fits is m lay =
-      let there = placed (Element w.names.used) u in
+  pub element_key : is_text_name k ≡ false → is_value_name k ≡ false → (r : Result (Unit {0}) Refusal) (u : Mem) → Awaits r k w u → Does (call_field k) room r w u
+  element_key t v r u a m lay =
       let e : key k ≡ key_element k = plain_key k plain ∙ ap (λ b. cond b key_text (cond (is_value_name k) key_value (key_element k))) t ∙ ap (λ b. cond b key_value (key_element k)) v in
-      on_field (λ y. Told (verdict (setting w) room (call_field k) y) (Ok tt) w there) w m lay at
+      on_field (λ y. Told (verdict (setting w) room (call_field k) y) r w u) w m lay at
       (λ l ls y.
-      told_ok w room (call_field k) (between l ls) there (key_clear k l ls fine (ap key_fault e ∙ f)) safe y.holds (omega (arith, ap (λ z. length (key_name z)) e, fits))
-      (depth_unasked w room (call_field k) (between l ls) refl) (sink_unasked w room (call_field k) (between l ls) refl)
-      (subst (λ z. Lays (field z l ls) there) (sym e) (subst (λ z. Lays (inside (element (stack [] l) k) [] l ls) (placed (Element w.names.used) z)) (sym is) (lays_element k l ls w fits y.holds)))
-      (subst (λ z. Beyond w (placed (Element w.names.used) z)) (sym is) (record { stage = past_same w.stage; names = past_grown w.names k fits; frames = past_same w.frames; form = refl; indentation = refl })))
+      awaits_told room (call_field k) (between l ls) k w
+      (record { order = refl; bytes = not_from_true (utf8 k) fine; shape = refl; text = refl; fault = ap key_fault e; brought = ap key_name e; handed = refl }) safe y.holds r u refl
+      (λ fits. subst (λ z. Lays (field z l ls) (placed (Element w.names.used) (name_put k w))) (sym e) (lays_element k l ls w fits y.holds)) a)

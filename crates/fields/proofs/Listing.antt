@@ -18,13 +18,13 @@ use Rattle.model.specs.Grounds.{no_item, is_text, value_string}
 use Rattle.model.specs.Table.{verdict, next, or_stay, value_opens}
 use Rattle.model.proofs.Flatten.{flatten_texted}
 use Rattle.engine.specs.Memory.{Mem, Safe, appended, worded, placed}
-use Rattle.engine.specs.Lays.{Holds, Lays, Beyond, setting, Told, Does}
+use Rattle.engine.specs.Lays.{IsString, Holds, Lays, Beyond, setting, Told, Does}
 use Rattle.engine.proofs.Fronts.{front_length, past_same, past_grown}
 use Rattle.engine.proofs.Kids.{more_kids, stage_kids, holds_kids}
 use Rattle.engine.proofs.Spots.{on_word}
 use Rattle.engine.proofs.Telling.{Clear, Small, told_small, told_small_full}
 use Rattle.rows.proofs.Elemental.{by_rule}
-use Rattle.fields.specs.Items.{IsItem, Adds}
+use Rattle.fields.specs.Items.{Adds}
 
 -- what is asked of an item, the same for both values
 record Item (c : Value) (r : Rule) (s : List ℕ) : Type 0 where
@@ -33,7 +33,7 @@ record Item (c : Value) (r : Rule) (s : List ℕ) : Type 0 where
   opens : value_opens c ≡ false
   puts : (t : Bool) (b : Body) → put_word t b c ≡ Some (item t b (r.chooses text_item_use) s)
 
-items : (c : Value) (r : Rule) (s : List ℕ) → IsItem c r s → Item c r s
+items : (c : Value) (r : Rule) (s : List ℕ) → IsString c r s → Item c r s
 items c r s is =
     ⊎_elim (λ e. subst (λ x. Item x r s) (sym e) (record { string = refl; shape = refl; opens = refl; puts = λ t b. refl }))
     (λ e. subst (λ x. Item x r s) (sym e) (record { string = refl; shape = refl; opens = refl; puts = λ t b. refl })) is
@@ -72,7 +72,7 @@ lays_item t bs rs l ls w room h =
     subst (λ z. Lays (inside (words true) rs (with_body l (more_kids l.body (texted bs) true)) ls) (placed (TextItem true) (worded true (appended z w)))) flat
     (record { holds = record { stage = k.stage; names = k.names; frames = k.frames; records = k.records; wordy = k.wordy; fit = k.fit }; place = refl })
 
-module _ (c : Value) (r : Rule) (s : List ℕ) (is : IsItem c r s) (room : ℕ) (t : Bool) (w v : Mem) (at : w.place ≡ TextItem t) (safe : Safe w) (fine : utf8 s ≡ true) (some : length s ≡ 0 → ⊥) where
+module _ (c : Value) (r : Rule) (s : List ℕ) (is : IsString c r s) (room : ℕ) (t : Bool) (w v : Mem) (at : w.place ≡ TextItem t) (safe : Safe w) (fine : utf8 s ≡ true) (some : length s ≡ 0 → ⊥) where
   clear : (rs : List Row) (l : Level) (ls : List Outer) → Clear (call_value c) (inside (words t) rs l ls)
   clear rs l ls =
       let i = items c r s is in

@@ -1,14 +1,9 @@
--- The items of a list that is a text: which values they are, and what a step that writes one answers. Assumes nothing.
-use Rattle.std.specs.Prelude.{◌≡◌, ℕ, ◌+◌, ◌<◌, ◌≤◌, true, ◌⊎◌, List, length, Ok, Err, Result}
+-- What a step that writes an item of a list that is a text answers. Assumes nothing.
+use Rattle.std.specs.Prelude.{◌≡◌, ℕ, ◌+◌, ◌<◌, ◌≤◌, true, List, length, Ok, Err, Result}
 use Rattle.refusal.specs.declared.Refusal.{Refusal}
 use Rattle.refusal.specs.declared.Refusal.TheVariants.{Stage}
 use Rattle.model.specs.declared.place.Place.TheVariants.{TextItem}
-use Rattle.model.specs.Calls.{Rule, Value, val_text, val_variant}
 use Rattle.engine.specs.Memory.{Mem, appended, worded, placed}
-
--- a text or a variant of these bytes under this rule
-abbrev pub IsItem : Value → Rule → List ℕ → Type 0
-IsItem c r s = (c ≡ val_text r s) ⊎ (c ≡ val_variant r s)
 
 -- the bytes are written behind the stage, and the next item has one before it; or they do not fit, and nothing has changed
 abbrev pub Adds : Result (Unit {0}) Refusal → List ℕ → Mem → Mem → Type 0

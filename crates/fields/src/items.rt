@@ -3,10 +3,10 @@ ghost use Rattle.std.specs.Prelude.{◌≡◌, ℕ, ◌++◌};
 ghost use Rattle.xml.specs.Escaping.{escaped};
 ghost use Rattle.xml.specs.declared.escape.Use.TheVariants.{TextItem as TextItemUse};
 ghost use Rattle.model.specs.declared.place.Place.TheVariants.{TextItem as TextItemPlace};
-ghost use Rattle.model.specs.Calls.{Rule, call_value, val_text, val_variant};
+ghost use Rattle.model.specs.Calls.{Rule, Value, call_value};
 ghost use Rattle.model.specs.Step.{gap};
 ghost use Rattle.engine.specs.Memory.{mem, Safe};
-ghost use Rattle.engine.specs.Lays.{Does};
+ghost use Rattle.engine.specs.Lays.{IsString, Does};
 ghost use Rattle.fields.specs.Items.{Adds};
 
 use engine::{Core, check_bytes, put};
@@ -39,8 +39,7 @@ pub fn string_as_item<R: EscapeRule>(
 ) -> Result<(), Refusal>
     requires safe { Safe (mem core.old) }
     requires place { core.old.place ≡ TextItemPlace written }
-    ensures text { (room : ℕ) (ρ : Rule) → ρ.chooses ≡ R.chooses string.entry.rule.now → Does (call_value (val_text ρ string.entry.value.now)) room result (mem core.old) (mem core.new) }
-    ensures variant { (room : ℕ) (ρ : Rule) → ρ.chooses ≡ R.chooses string.entry.rule.now → Does (call_value (val_variant ρ string.entry.value.now)) room result (mem core.old) (mem core.new) }
+    ensures does { (room : ℕ) (ρ : Rule) (c : Value) → ρ.chooses ≡ R.chooses string.entry.rule.now → IsString c ρ string.entry.value.now → Does (call_value c) room result (mem core.old) (mem core.new) }
 {
     check_bytes(string.value)?;
     if string.value.is_empty() {

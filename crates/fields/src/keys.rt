@@ -22,12 +22,7 @@ fn child_field(core: &mut Core<'_>, key: &str) -> Result<(), Refusal>
     } else if is_value_name(bytes) {
         core.place = Place::Content(true);
     } else {
-        check_name(key)?;
-        if !core.names.fits(&bytes) {
-            return Err(Refusal::Stack);
-        }
-        let from = core.push_name(bytes);
-        core.place = Place::Element(from);
+        core.await_element(key)?;
     }
     Ok(())
 }
