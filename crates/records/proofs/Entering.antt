@@ -1,5 +1,5 @@
 -- A record opens at a value place: a tag behind the children, and the record's own frame. Assumes nothing.
-use Rattle.std.proofs.Common.{◌≡◌, ℕ, ◌+◌, ◌<◌, ◌≤◌, Bool, true, List, [], ◌∷◌, ◌++◌, length, Ok, Err, sym, refl, ap, ◌∙◌, subst, inl, inr, append_assoc, arith}
+use Rattle.std.proofs.Common.{◌≡◌, ℕ, ◌+◌, ◌<◌, ◌≤◌, Bool, true, List, [], ◌∷◌, ◌++◌, length, Ok, Err, Result, sym, refl, ap, ◌∙◌, subst, inl, inr, append_assoc, arith}
 use Rattle.std.proofs.lemmas.List.{append-nil, length-append}
 use Rattle.std.proofs.lemmas.Bool.{not_from_true}
 use Rattle.refusal.specs.declared.Refusal.{Refusal}
@@ -14,13 +14,16 @@ use Rattle.model.specs.Frames.{new_frame}
 use Rattle.model.specs.Table.{verdict, next, value_opens}
 use Rattle.engine.specs.Memory.{Buf, Mem, Safe, Put, with_stage, name_put, pushed, appended}
 use Rattle.engine.specs.Lays.{Holds, Lays, Beyond, setting, Told, Does}
+use Rattle.engine.specs.Opening.{begun, Opens}
+use Rattle.engine.proofs.Begins.{Names, opens_told}
 use Rattle.engine.proofs.Fronts.{front_length, front_as, front_grown, front_push, past_same, past_grown, past_set}
 use Rattle.engine.proofs.Telling.{Clear, told_stage, told_ok, depth_is_free, sink_unasked}
 use Rattle.engine.proofs.Spots.{on_element, on_content}
 use Rattle.rows.specs.Pieces.{lead_of, name_of}
+use Rattle.rows.proofs.Rooting.{same_new}
 use Rattle.rows.proofs.Tagging.{lead_is_start, name_is}
-use Rattle.records.specs.Names.{Named, begun, RecordValue}
-use Rattle.records.proofs.Naming.{Names, names_clear, names_fit, holds_name}
+use Rattle.records.specs.Names.{RecordValue}
+use Rattle.records.proofs.Naming.{holds_name}
 
 -- the bytes of a tag of this name that opens
 abbrev pub tag_start : Mem → List ℕ → List ℕ
@@ -32,9 +35,6 @@ around rs l ls = record { level = l; rows = rs } ∷ ls
 
 regroup : (a b c d e : List ℕ) → ((a ++ (b ++ [])) ++ c) ++ (d ++ e) ≡ ((a ++ (b ++ c)) ++ ((d ++ (e ++ [])) ++ [])) ++ []
 regroup a b c d e = simp (append_assoc, append-nil)
-
-same_new : (t s k j a b : ℕ) → t ≡ s → k ≡ j → a ≡ b → new_frame t k a ≡ new_frame s j b
-same_new t s k j a b p q r = cc
 
 -- the tag's start behind the stage of a memory that holds the name that the record takes
 module _ (u n : List ℕ) (rs : List Row) (l : Level) (ls : List Outer) (w : Mem) (h : Holds (inside (element u n) rs l ls) w) where
@@ -85,16 +85,6 @@ beyond_record w bs from fits =
       indentation = refl;
     }
 
-beyond_named : (w : Mem) (n bs : List ℕ) (from : ℕ) → w.names.used + length n ≤ length w.names.all → w.stage.used + length bs ≤ length w.stage.all → Beyond w (begun from (appended bs (name_put n w)))
-beyond_named w n bs from room fits =
-    record {
-      stage = past_grown w.stage bs fits;
-      names = past_grown w.names n room;
-      frames = past_set w.frames w.frames.used (w.frames.used + 1) (new_frame (w.stage.used + length bs) (w.names.used + length n) from) (omega arith);
-      form = refl;
-      indentation = refl;
-    }
-
 -- at an element place
 module _ (room : ℕ) (w : Mem) (from : ℕ) (q : List ℕ) (safe : Safe w) (at : w.place ≡ Element from) (ok : utf8 q ≡ true) where
   clear_there : (u n : List ℕ) (rs : List Row) (l : Level) (ls : List Outer) → Clear (call_value (val_record q)) (inside (element u n) rs l ls)
@@ -138,32 +128,11 @@ enters c p n w u (inr e) rs l ls =
     subst (λ x. Enters x p n w rs l ls) (sym e.0) (record { names = record { order = refl; bytes = not_from_true (utf8 n) u; shape = e.1; text = refl; fault = refl; brought = refl; handed = refl }; takes = refl; goes = refl })
 
 -- at a content place
-module _ (room : ℕ) (w : Mem) (n : List ℕ) (p : Bool) (safe : Safe w) (at : w.place ≡ Content p) (u : utf8 n ≡ true) where
-  module _ (c : Value) (is : RecordValue c n) where
-    module _ (y : Named (Ok tt) n w) where
-      module _ (free : w.frames.used < length w.frames.all) where
-        -- its tag does not fit
-        pub enter_full : (e : Refusal) (b : Buf ℕ) → Put (Err e) (tag_start w n) w.stage b → Does (call_value c) room (Err e) w (with_stage w b)
-        enter_full e b z m lay = on_content (λ x. Told (verdict (setting w) room (call_value c) x) (Err e) w (with_stage w b)) w p m lay at (λ rs l ls a.
-            let here = inside (content p) rs l ls in
-            let k = enters c p n w u is rs l ls in
-            let h = a.holds in
-            let size : length (stage w.indentation (next w.form (call_value c) here)) ≡ w.stage.used + length (tag_start w n) =
-            ap (λ x. length (stage w.indentation x)) k.goes ∙ stage_opened (stack rs l) n rs l ls (name_put n w) (holds_name p rs l ls w n y.1 h) in
-            subst (λ x. Told (verdict (setting w) room (call_value c) here) (Err e) w (with_stage w x)) (sym z.1)
-            (subst (λ x. Told (verdict (setting w) room (call_value c) here) (Err x) w w) (sym z.0)
-            (told_stage w room (call_value c) here (names_clear room (call_value c) here n w k.names safe h y.0) safe h (names_fit room (call_value c) here n w k.names safe h y.1)
-            (depth_is_free w room (call_value c) here safe h.frames free) (omega (arith, size, z.2)))))
-
-        pub enter_ok : (b : Buf ℕ) (v : Mem) → Put (Ok tt) (tag_start w n) w.stage b → v ≡ begun w.names.used (name_put n (with_stage w b)) → Does (call_value c) room (Ok tt) w v
-        enter_ok b v z opens m lay = on_content (λ x. Told (verdict (setting w) room (call_value c) x) (Ok tt) w v) w p m lay at (λ rs l ls a.
-            let here = inside (content p) rs l ls in
-            let k = enters c p n w u is rs l ls in
-            let h = a.holds in
-            let s = stack rs l in
-            let v_is : v ≡ begun w.names.used (appended (tag_start w n) (name_put n w)) = opens ∙ ap (λ x. begun w.names.used (name_put n (with_stage w x))) z.1 in
-            let laid = lays_record s n rs l ls (name_put n w) (holds_name p rs l ls w n y.1 h) w.names.used (front_length w.names s h.names) free z.0 in
-            told_ok w room (call_value c) here v (names_clear room (call_value c) here n w k.names safe h y.0) safe h (names_fit room (call_value c) here n w k.names safe h y.1)
-            (depth_is_free w room (call_value c) here safe h.frames free) (sink_unasked w room (call_value c) here refl)
-            (subst (λ x. Lays x v) (sym k.goes) (subst (λ x. Lays (between (new_level s n) (around rs l ls)) x) (sym v_is) laid))
-            (subst (λ x. Beyond w x) (sym v_is) (beyond_named w n (tag_start w n) w.names.used y.1 z.0)))
+pub enter_told : (room : ℕ) (w v : Mem) (n : List ℕ) (p : Bool) (c : Value) → Safe w → w.place ≡ Content p → utf8 n ≡ true → RecordValue c n → (r : Result (Unit {0}) Refusal) → Opens r (lead_of w) n w v → Does (call_value c) room r w v
+enter_told room w v n p c safe at u is r o m lay = on_content (λ x. Told (verdict (setting w) room (call_value c) x) r w v) w p m lay at (λ rs l ls z.
+    let s = stack rs l in
+    let k = enters c p n w u is rs l ls in
+    let named = holds_name p rs l ls w n in
+    opens_told room (call_value c) (inside (content p) rs l ls) n w k.names safe z.holds (lead_of w) r v k.takes
+    (λ fits. ap (λ x. length (stage w.indentation x)) k.goes ∙ stage_opened s n rs l ls (name_put n w) (named fits z.holds))
+    (λ fits free room. subst (λ x. Lays x (begun w.names.used (name_put n (appended (tag_start w n) w)))) (sym k.goes) (lays_record s n rs l ls (name_put n w) (named fits z.holds) w.names.used (front_length w.names s z.holds.names) free room)) o)

@@ -1,45 +1,29 @@
 -- Values at a content place that bring a name: wrapped values and rows of variants. Assumes nothing.
-use Rattle.std.proofs.Common.{◌≡◌, ℕ, ◌+◌, ◌<◌, ◌≤◌, Bool, true, false, cond, not, List, [], ◌∷◌, ◌++◌, length, Some, None, Ok, Result, sym, refl, ap, ◌∙◌, subst, arith}
+use Rattle.std.proofs.Common.{◌≡◌, ℕ, ◌+◌, ◌<◌, ◌≤◌, Bool, true, false, cond, not, ◌⊎◌, List, [], ◌∷◌, ◌++◌, length, Some, None, Ok, Err, Result, sym, refl, ap, ◌∙◌, subst, ⊎_elim}
 use Rattle.std.proofs.lemmas.Bool.{not_from_true, and_left, and_right}
 use Rattle.refusal.specs.declared.Refusal.{Refusal}
 use Rattle.xml.specs.Names.{name_fault}
 use Rattle.model.specs.declared.place.Place.TheVariants.{Element, Content, TextItem}
 use Rattle.model.specs.Strings.{utf8}
-use Rattle.model.specs.Calls.{Call, call_value, Value, val_wrapped, val_variant_row, is_text_name}
-use Rattle.model.specs.Model.{Level, Row, named_row, Outer, element, content, simple, words, State, inside, stack, flag}
+use Rattle.model.specs.Calls.{call_value, Value, val_wrapped, val_variant_row, is_text_name}
+use Rattle.model.specs.Model.{Level, Row, named_row, Outer, element, content, simple, words, inside, stack, flag}
 use Rattle.model.specs.Step.{on, opens_row, moved_if}
 use Rattle.model.specs.Layout.{list_frame, row_frame}
 use Rattle.model.specs.Frames.{named_frame}
-use Rattle.model.specs.Grounds.{out_of_order, ill_formed, misshapen, runs_on, misnamed, value_string, no_content, is_text, content_fault}
-use Rattle.model.specs.Table.{verdict, next, or_stay, name_brought, handed, content_name}
+use Rattle.model.specs.Grounds.{ill_formed, value_string, no_content, is_text, content_fault}
+use Rattle.model.specs.Table.{verdict, next, or_stay, content_name}
 use Rattle.engine.specs.Memory.{Mem, Safe, pushed, placed, name_put, top_frame}
 use Rattle.engine.specs.Lays.{row_stacks, outer_stacks, Holds, Lays, Beyond, setting, Told, Does}
-use Rattle.engine.proofs.Fronts.{front_length, front_grown, begins_self, begins_more, past_same, past_grown}
-use Rattle.engine.proofs.Telling.{Clear, told_ok, depth_is_free, depth_unasked, sink_unasked}
+use Rattle.engine.specs.Opening.{FrameFree, Named, Awaits}
+use Rattle.engine.proofs.Begins.{Names, names_clear, names_fit, named_told, awaits_told, unframed_told}
+use Rattle.engine.proofs.Fronts.{front_length, front_grown, begins_self, begins_more}
+use Rattle.engine.proofs.Telling.{Clear, told_ok, depth_is_free, sink_unasked}
 use Rattle.engine.proofs.Spots.{on_content}
 use Rattle.engine.proofs.Tops.{top_flag}
 use Rattle.nests.specs.Frames.{Pushes}
 use Rattle.nests.proofs.Leaving.{nested_rest}
 use Rattle.nests.proofs.Pushing.{lays_placed, holds_row, holds_list, beyond_push}
 use Rattle.nests.proofs.Rowing.{pushes_told}
-use Rattle.records.specs.Names.{Named}
-
--- a call that brings this name to the name stack, and has passed the first four rows
-pub record Names (c : Call) (m : State) (n : List ℕ) (w : Mem) : Type 0 where
-  pub order : out_of_order c m ≡ false
-  pub bytes : ill_formed c ≡ false
-  pub shape : misshapen c m ≡ false
-  pub text : runs_on c m ≡ false
-  pub fault : misnamed c m ≡ name_fault n
-  pub brought : name_brought c m ≡ n
-  pub handed : handed w.indentation c m ≡ []
-
-module _ (room : ℕ) (c : Call) (m : State) (n : List ℕ) (w : Mem) (k : Names c m n w) (safe : Safe w) (h : Holds m w) where
-  pub names_clear : name_fault n ≡ None → Clear c m
-  names_clear e = record { order = k.order; bytes = k.bytes; shape = k.shape; text = k.text; name = k.fault ∙ e }
-
-  pub names_fit : w.names.used + length n ≤ length w.names.all → w.names.used + length (name_brought c m) ≤ length w.names.all
-  names_fit f = omega (arith, ap length k.brought, f)
 
 -- the name of an element that is still to come
 pub holds_name : (p : Bool) (rs : List Row) (l : Level) (ls : List Outer) (w : Mem) (n : List ℕ) → w.names.used + length n ≤ length w.names.all → Holds (inside (content p) rs l ls) w → Holds (inside (element (stack rs l) n) rs l ls) (name_put n w)
@@ -93,34 +77,41 @@ module _ (c : Value) (n : List ℕ) (p : Bool) (w : Mem) (a : Announces c n) (u 
 same_named : (g h : Bool) (k l a b : ℕ) → g ≡ h → k ≡ l → a ≡ b → named_frame g k a ≡ named_frame h l b
 same_named g h k l a b p q r = cc
 
-module _ (room : ℕ) (w v : Mem) (n : List ℕ) (p : Bool) (safe : Safe w) (at : w.place ≡ Content p) (u : utf8 n ≡ true) where
+-- where a row of variants leads
+row_goes : (n : List ℕ) (p : Bool) (w : Mem) (rs : List Row) (l : Level) (ls : List Outer) (b : Bool) → is_text_name n ≡ b → next w.form (call_value (val_variant_row n)) (inside (content p) rs l ls) ≡ or_stay (inside (content p) rs l ls) (moved_if rs l ls (Some (cond b (on (words false) l.body) (opens_row (named_row (stack rs l) n (flag rs l.body))))))
+row_goes n p w rs l ls b t = ap (λ x. or_stay (inside (content p) rs l ls) (moved_if rs l ls (Some (cond x (on (words false) l.body) (opens_row (named_row (stack rs l) n (flag rs l.body))))))) t
+
+module _ (room : ℕ) (w : Mem) (n : List ℕ) (p : Bool) (safe : Safe w) (at : w.place ≡ Content p) (u : utf8 n ≡ true) where
   -- a list, which is one text
-  pub variants_list : (r : Result (Unit {0}) Refusal) → is_text_name n ≡ true → p ≡ true → Pushes r list_frame (TextItem false) w v → Does (call_value (val_variant_row n)) room r w v
-  variants_list r t q y m lay = on_content (λ x. Told (verdict (setting w) room (call_value (val_variant_row n)) x) r w v) w p m lay at (λ rs l ls z.
-      let c = call_value (val_variant_row n) in
-      let goes : next w.form c (inside (content p) rs l ls) ≡ inside (words false) rs l ls = ap (λ b. or_stay (inside (content p) rs l ls) (moved_if rs l ls (Some (cond b (on (words false) l.body) (opens_row (named_row (stack rs l) n (flag rs l.body))))))) t in
-      pushes_told room c (inside (content p) rs l ls) w v r list_frame list_frame (TextItem false) (TextItem false)
-      (record { clear = announced_text (val_variant_row n) n p w (row_announces n) u rs l ls t q; brought = no_name (val_variant_row n) n p w (row_announces n) u rs l ls t; takes = refl; handed = refl }) safe z.holds refl refl
-      (λ free. subst (λ x. Lays x (placed (TextItem false) (pushed list_frame w))) (sym goes) (lays_placed (inside (words false) rs l ls) (TextItem false) (pushed list_frame w) refl (holds_list (content p) rs l ls w refl refl free z.holds))) y)
+  pub variants_list : (v : Mem) (r : Result (Unit {0}) Refusal) → is_text_name n ≡ true → p ≡ true → Pushes r list_frame (TextItem false) w v → Does (call_value (val_variant_row n)) room r w v
+  variants_list v r t q y m lay = on_content (λ x. Told (verdict (setting w) room (call_value (val_variant_row n)) x) r w v) w p m lay at (λ rs l ls z.
+      let c = val_variant_row n in
+      let a = row_announces n in
+      pushes_told room (call_value c) (inside (content p) rs l ls) w v r list_frame list_frame (TextItem false) (TextItem false)
+      (record { clear = announced_text c n p w a u rs l ls t q; brought = no_name c n p w a u rs l ls t; takes = refl; handed = refl }) safe z.holds refl refl
+      (λ free. subst (λ x. Lays x (placed (TextItem false) (pushed list_frame w))) (sym (row_goes n p w rs l ls true t)) (lays_placed (inside (words false) rs l ls) (TextItem false) (pushed list_frame w) refl (holds_list (content p) rs l ls w refl refl free z.holds))) y)
 
   module _ (t : is_text_name n ≡ false) where
     -- an element that is still to come
-    pub wrapped_ok : Named (Ok tt) n w → v ≡ placed (Element w.names.used) (name_put n w) → Does (call_value (val_wrapped n)) room (Ok tt) w v
-    wrapped_ok y is m lay = on_content (λ x. Told (verdict (setting w) room (call_value (val_wrapped n)) x) (Ok tt) w v) w p m lay at (λ rs l ls z.
-        let c = call_value (val_wrapped n) in
+    pub wrapped_told : (v : Mem) (r : Result (Unit {0}) Refusal) → Awaits r n w v → Does (call_value (val_wrapped n)) room r w v
+    wrapped_told v r y m lay = on_content (λ x. Told (verdict (setting w) room (call_value (val_wrapped n)) x) r w v) w p m lay at (λ rs l ls z.
+        let c = val_wrapped n in
         let here = inside (content p) rs l ls in
-        let h = z.holds in
         let there = inside (element (stack rs l) n) rs l ls in
-        let k = announced_name (val_wrapped n) n p w (wrapped_announces n) u rs l ls t in
-        let goes : next w.form c (inside (content p) rs l ls) ≡ inside (element (stack rs l) n) rs l ls = ap (λ b. or_stay (inside (content p) rs l ls) (moved_if rs l ls (Some (cond b (on simple l.body) (on (element (stack rs l) n) l.body))))) t in
-        let laid = lays_placed there (Element w.names.used) (name_put n w) (ap Element (front_length w.names (stack rs l) h.names)) (holds_name p rs l ls w n y.1 h) in
-        let same : Beyond w (placed (Element w.names.used) (name_put n w)) = record { stage = past_same w.stage; names = past_grown w.names n y.1; frames = past_same w.frames; form = refl; indentation = refl } in
-        told_ok w room c here v (names_clear room c here n w k safe h y.0) safe h (names_fit room c here n w k safe h y.1) (depth_unasked w room c here refl) (sink_unasked w room c here refl)
-        (subst (λ x. Lays x v) (sym goes) (subst (λ x. Lays there x) (sym is) laid)) (subst (λ x. Beyond w x) (sym is) same))
+        let goes : next w.form (call_value c) (inside (content p) rs l ls) ≡ inside (element (stack rs l) n) rs l ls = ap (λ b. or_stay (inside (content p) rs l ls) (moved_if rs l ls (Some (cond b (on simple l.body) (on (element (stack rs l) n) l.body))))) t in
+        awaits_told room (call_value c) here n w (announced_name c n p w (wrapped_announces n) u rs l ls t) safe z.holds r v refl
+        (λ fits. subst (λ x. Lays x (placed (Element w.names.used) (name_put n w))) (sym goes) (lays_placed there (Element w.names.used) (name_put n w) (ap Element (front_length w.names (stack rs l) z.holds.names)) (holds_name p rs l ls w n fits z.holds))) y)
 
-    -- a row of elements
-    pub variants_ok : Named (Ok tt) n w → w.frames.used < length w.frames.all → v ≡ placed (Element w.names.used) (pushed (named_frame (top_frame w).flag (w.names.used + length n) w.names.used) (name_put n w)) → Does (call_value (val_variant_row n)) room (Ok tt) w v
-    variants_ok y free is m lay = on_content (λ q. Told (verdict (setting w) room (call_value (val_variant_row n)) q) (Ok tt) w v) w p m lay at (λ rs l ls z.
+    -- a row of elements: its name is refused, or no frame is free
+    pub variants_refused : (e : Refusal) → Named {A = Unit {0}} (Err e) n w ⊎ (Named {A = Unit {0}} (Ok tt) n w × FrameFree (Err e) w) → Does (call_value (val_variant_row n)) room (Err e) w w
+    variants_refused e y m lay = on_content (λ x. Told (verdict (setting w) room (call_value (val_variant_row n)) x) (Err e) w w) w p m lay at (λ rs l ls z.
+        let c = call_value (val_variant_row n) in
+        let here = inside (content p) rs l ls in
+        let k = announced_name (val_variant_row n) n p w (row_announces n) u rs l ls t in
+        ⊎_elim (named_told room c here n w k safe z.holds e) (λ d. unframed_told room c here n w k safe z.holds e refl d.0 d.1) y)
+
+    pub variants_ok : (v : Mem) → Named {A = Unit {0}} (Ok tt) n w → w.frames.used < length w.frames.all → v ≡ placed (Element w.names.used) (pushed (named_frame (top_frame w).flag (w.names.used + length n) w.names.used) (name_put n w)) → Does (call_value (val_variant_row n)) room (Ok tt) w v
+    variants_ok v y free is m lay = on_content (λ q. Told (verdict (setting w) room (call_value (val_variant_row n)) q) (Ok tt) w v) w p m lay at (λ rs l ls z.
         let c = call_value (val_variant_row n) in
         let here = inside (content p) rs l ls in
         let k = announced_name (val_variant_row n) n p w (row_announces n) u rs l ls t in
@@ -128,11 +119,10 @@ module _ (room : ℕ) (w v : Mem) (n : List ℕ) (p : Bool) (safe : Safe w) (at 
         let s = stack rs l in
         let f = flag rs l.body in
         let there = inside (element s n) (named_row s n f ∷ rs) l ls in
-        let goes : next w.form c (inside (content p) rs l ls) ≡ inside (element (stack rs l) n) (named_row (stack rs l) n (flag rs l.body) ∷ rs) l ls = ap (λ b. or_stay (inside (content p) rs l ls) (moved_if rs l ls (Some (cond b (on (words false) l.body) (opens_row (named_row (stack rs l) n (flag rs l.body))))))) t in
         let more = holds_name p rs l ls w n y.1 h in
         let used = front_length w.names s h.names in
         let frame = same_named (top_frame w).flag f (w.names.used + length n) (length (s ++ n)) w.names.used (length s) (top_flag (content p) rs l ls w refl h) (front_length (name_put n w).names (s ++ n) more.names) used in
         let laid = lays_placed there (Element w.names.used) (pushed (row_frame (named_row s n f)) (name_put n w)) (ap Element used) (holds_row (element s n) (element s n) (named_row s n f) rs l ls (name_put n w) (name_put n w).names refl refl free more more.names (begins_self (s ++ n)) more.fit) in
         let whole_is : v ≡ placed (Element w.names.used) (pushed (row_frame (named_row (stack rs l) n (flag rs l.body))) (name_put n w)) = is ∙ ap (λ j. placed (Element w.names.used) (pushed j (name_put n w))) frame in
         told_ok w room c here v (names_clear room c here n w k safe h y.0) safe h (names_fit room c here n w k safe h y.1) (depth_is_free w room c here safe h.frames free) (sink_unasked w room c here refl)
-        (subst (λ j. Lays j v) (sym goes) (subst (λ j. Lays there j) (sym whole_is) laid)) (subst (λ j. Beyond w j) (sym whole_is) (beyond_push w (row_frame (named_row s n f)) (Element w.names.used) n y.1)))
+        (subst (λ j. Lays j v) (sym (row_goes n p w rs l ls false t)) (subst (λ j. Lays there j) (sym whole_is) laid)) (subst (λ j. Beyond w j) (sym whole_is) (beyond_push w (row_frame (named_row s n f)) (Element w.names.used) n y.1)))

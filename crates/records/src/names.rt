@@ -4,24 +4,12 @@ ghost use Rattle.model.specs.declared.place.Place.TheVariants.{Content as Conten
 ghost use Rattle.model.specs.Calls.{call_value, val_wrapped, val_variant_row, is_text_name};
 ghost use Rattle.engine.specs.Memory.{mem, Safe};
 ghost use Rattle.engine.specs.Lays.{Does};
-ghost use Rattle.records.specs.Names.{Named, TextAnnounced};
+ghost use Rattle.records.specs.Names.{TextAnnounced};
 
-use engine::{Core, check_bytes, check_name, is_text_name};
+use engine::{Core, check_bytes, is_text_name};
 use model::{Frame, Place};
 use nests::take_frame;
 use refusal::Refusal;
-
-/// Whether this text is a name, and the name stack has room for it.
-pub(crate) fn name_fits(core: &Core<'_>, name: &str) -> Result<(), Refusal>
-    requires safe { Safe (mem core.now) }
-    ensures named { Named result name.now (mem core.now) }
-{
-    check_name(name)?;
-    if !core.names.fits(&name.as_bytes()) {
-        return Err(Refusal::Stack);
-    }
-    Ok(())
-}
 
 // The name of an element; none where it announces a text, which is refused where none may stand.
 fn element_name(name: &[u8], texts: bool) -> Result<Option<&str>, Refusal>
@@ -37,18 +25,6 @@ fn element_name(name: &[u8], texts: bool) -> Result<Option<&str>, Refusal>
     Ok(None)
 }
 
-// A wrapped value that becomes an element of this name.
-fn wrap(core: &mut Core<'_>, name: &str) -> Result<(), Refusal>
-    requires safe { Safe (mem core.old) }
-    requires element { is_text_name name.now ≡ false }
-    ensures does { (room : ℕ) (texts : Bool) → core.old.place ≡ ContentPlace texts → Does (call_value (val_wrapped name.now)) room result (mem core.old) (mem core.new) }
-{
-    name_fits(core, name)?;
-    let from = core.push_name(name.as_bytes());
-    core.place = Place::Element(from);
-    Ok(())
-}
-
 /// A wrapped value at a content place: a text, or an element of the variant's name.
 pub fn wrapped_at_content(core: &mut Core<'_>, texts: bool, name: &[u8]) -> Result<(), Refusal>
     requires safe { Safe (mem core.old) }
@@ -56,25 +32,23 @@ pub fn wrapped_at_content(core: &mut Core<'_>, texts: bool, name: &[u8]) -> Resu
     ensures does { (room : ℕ) → Does (call_value (val_wrapped name.now)) room result (mem core.old) (mem core.new) }
 {
     if let Some(name) = element_name(name, texts)? {
-        return wrap(core, name);
+        return core.await_element(name);
     }
     core.place = Place::Simple;
     Ok(())
 }
 
 // A row in which each item is an element of this name.
-fn open_named(core: &mut Core<'_>, name: &str) -> Result<(), Refusal>
+fn open_named(core: &mut Core<'_>, text: &str) -> Result<(), Refusal>
     requires safe { Safe (mem core.old) }
     requires open { 0 < core.old.frames.used }
-    requires element { is_text_name name.now ≡ false }
-    ensures does { (room : ℕ) (texts : Bool) → core.old.place ≡ ContentPlace texts → Does (call_value (val_variant_row name.now)) room result (mem core.old) (mem core.new) }
+    requires element { is_text_name text.now ≡ false }
+    ensures does { (room : ℕ) (texts : Bool) → core.old.place ≡ ContentPlace texts → Does (call_value (val_variant_row text.now)) room result (mem core.old) (mem core.new) }
 {
-    name_fits(core, name)?;
-    if core.frames.room() == 0 {
-        return Err(Refusal::Depth);
-    }
+    let name = core.fitting_name(text)?;
+    core.frame_free()?;
     let flag = core.top().flag;
-    let from = core.push_name(name.as_bytes());
+    let from = core.push_name(name);
     core.push(Frame::named_row(flag, core.names.used, from));
     core.place = Place::Element(from);
     Ok(())

@@ -66,7 +66,7 @@ abandon_told room w v safe h is = subst (λ x. Does call_abandon room (Ok tt) w 
 stage_root : (i : Option Indentation) (n : List ℕ) → 60 ∷ n ≡ stage i (between (new_level [] n) [])
 stage_root i n = ap (λ z. 60 ∷ z) (sym (append-nil n) ∙ sym (append-nil (n ++ [])) ∙ sym (append-nil ((n ++ []) ++ [])))
 
-same_new : (t s k j a b : ℕ) → t ≡ s → k ≡ j → a ≡ b → new_frame t k a ≡ new_frame s j b
+pub same_new : (t s k j a b : ℕ) → t ≡ s → k ≡ j → a ≡ b → new_frame t k a ≡ new_frame s j b
 same_new t s k j a b p q r = cc
 
 module _ (n : List ℕ) (w : Mem) (lay : Lays idle w) where

@@ -16,6 +16,6 @@ returns c =
     let v = mem c.take_frame.new.core in
     let told = rw c.in_default.is at c.in_ok-name.ensures.announced in
     record {
-      does = λ room. variants_list room w v c.args.name.now c.args.texts c.requires.safe c.requires.place told.0 c.take_frame.result told.1 told.2
+      does = λ room. variants_list room w c.args.name.now c.args.texts c.requires.safe c.requires.place told.0 v c.take_frame.result told.1 told.2
           (subst (λ f. Pushes c.take_frame.result f (TextItem false) w v) c.list.ensures.value c.take_frame.ensures.pushes);
     }

@@ -1,6 +1,11 @@
+use Rattle.engine.specs.Memory.{mem}
+use Rattle.records.proofs.Naming.{wrapped_told}
 use Rattle.records.proofs.names.wrapped_at_content.Goals as goal
 
 pub returns-in-Some : goal.returns-in-Some
 returns-in-Some c =
     let told = rw c.in-Some.is at c.in_ok-name.ensures.announced in
-    record { does = λ room. rw told.2 at c.wrap.ensures.does room c.args.texts c.requires.place }
+    record {
+      does = λ room. wrapped_told room (mem c.args.core.now) c.args.name.now c.args.texts c.requires.safe c.requires.place told.0 told.1 (mem c.await_element.new.self) c.await_element.result
+          (rw told.2 at c.await_element.ensures.awaits);
+    }

@@ -1,4 +1,3 @@
-use Rattle.std.proofs.Common.{arith}
 use Rattle.std.proofs.lemmas.Result.{err_from_is_err_and}
 use Rattle.engine.specs.Memory.{mem, buf}
 use Rattle.records.proofs.Entering.{element_record_full, element_record_ok}
@@ -11,8 +10,8 @@ returns-in_err-put c =
     let p = err_from_is_err_and c.from_residual-in_err-put.result c.from_residual-in_err-put.ensures.1 in
     rw (p.1, p.2)
     (record {
-      does = λ room. element_record_full room w c.args.from c.args.name.now c.requires.safe c.requires.place c.in_ok-check_bytes.ensures.checked (omega arith) _ b
-          (rw (c.lead-lead.ensures.value, c.part-tag_name.ensures.value) at c.in_err-put.ensures.puts);
+      does = λ room. element_record_full room w c.args.from c.args.name.now c.requires.safe c.requires.place c.in_ok-check_bytes.ensures.checked c.in_ok-frame_free.ensures.free _ b
+          (rw (c.lead-lead.ensures.value, c.tail-tag_name.ensures.value) at c.in_err-put.ensures.puts);
     })
 
 pub returns : goal.returns
@@ -20,6 +19,6 @@ returns c =
     let w = mem c.args.core.now in
     let b = buf c.put.new.stage in
     record {
-      does = λ room. element_record_ok room w c.args.from c.args.name.now c.requires.safe c.requires.place c.in_ok-check_bytes.ensures.checked (omega arith) b (mem c.begin_fields.new.core)
-          (rw (c.lead-lead.ensures.value, c.part-tag_name.ensures.value) at c.in_ok-put.ensures.puts) c.begin_fields.ensures.memory;
+      does = λ room. element_record_ok room w c.args.from c.args.name.now c.requires.safe c.requires.place c.in_ok-check_bytes.ensures.checked c.in_ok-frame_free.ensures.free b (mem c.begin_record.new.self)
+          (rw (c.lead-lead.ensures.value, c.tail-tag_name.ensures.value) at c.in_ok-put.ensures.puts) c.begin_record.ensures.memory;
     }

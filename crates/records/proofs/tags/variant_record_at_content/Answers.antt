@@ -6,4 +6,4 @@ pub returns : goal.returns
 returns c =
     let same = c.in_ok-text.ensures.same in
     let named = ap is_text_name same ∙ sym c.is_text_name.ensures.value ∙ c.if-is_text_name.false in
-    record { does = λ room. c.enter.ensures.does room c.args.texts (val_variant_record c.args.name.now) c.requires.place (inr (ap val_variant_record (sym same), named)) }
+    record { does = λ room p at. c.enter.ensures.does room p (val_variant_record c.args.name.now) at (inr (ap val_variant_record (sym same), named)) }
