@@ -26,7 +26,7 @@ pushes_told room c m w v (Ok x) f g p q o safe h e d lay y =
 pushes_told room c m w v (Err x) f g p q o safe h e d lay y =
     subst (λ z. Told (verdict (setting w) room c m) (Err z) w v) (sym y.0) (subst (λ z. Told (verdict (setting w) room c m) (Err Depth) w z) (sym y.2) (opens_deep room c m w o safe h y.1))
 
-same_named : (g h : Bool) (k l a b : ℕ) → g ≡ h → k ≡ l → a ≡ b → named_frame g k a ≡ named_frame h l b
+pub same_named : (g h : Bool) (k l a b : ℕ) → g ≡ h → k ≡ l → a ≡ b → named_frame g k a ≡ named_frame h l b
 same_named g h k l a b p q r = cc
 
 same_content : (g h : Bool) (k l : ℕ) → g ≡ h → k ≡ l → content_frame g k ≡ content_frame h l

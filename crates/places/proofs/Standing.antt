@@ -1,14 +1,17 @@
 -- What every memory that holds a model gives: the numbers that the steps rely on. Assumes nothing.
-use Rattle.std.proofs.Common.{◌≡◌, ℕ, ◌-◌, ◌<◌, ◌≤◌, Bool, ◌⊎◌, List, [], ◌∷◌, ◌++◌, length, Option, ⊎_elim, arith}
+use Rattle.std.proofs.Common.{◌≡◌, ℕ, ◌-◌, ◌<◌, ◌≤◌, Bool, ◌⊎◌, List, [], ◌∷◌, ◌++◌, length, Option, Result, refl, inl, inr, ⊎_elim, arith}
 use mathlib.Core.Logic.{∥∥₁_elim}
 use native.Mathlib.Bridge.{le_prop}
 use Rattle.std.proofs.lemmas.List.{length-append}
 use Rattle.style.specs.declared.indentation.Indentation.{Indentation}
 use Rattle.model.specs.declared.place.Place.TheVariants.{Field, Element, Content, Text, Simple, Attribute, TextItem, AttributeItem}
+use Rattle.refusal.specs.declared.Refusal.{Refusal}
+use Rattle.xml.specs.declared.escape.Use.{Use}
+use Rattle.model.specs.Calls.{Rule, Value, val_text, val_variant, call_value}
 use Rattle.model.specs.Model.{Level, Row, Outer, text_spot, simple, words, State, idle, between, inside, quote, complete}
 use Rattle.model.specs.Layout.{records, frames, outer_frames, record_frame, row_frames, list_frame, spot_frames, quote_frames, pending}
 use Rattle.engine.specs.Memory.{Mem, Safe, top_frame, frame_at}
-use Rattle.engine.specs.Lays.{Lays, Holds}
+use Rattle.engine.specs.Lays.{IsString, Lays, Holds, Does}
 use Rattle.engine.proofs.Fronts.{front_length}
 use Rattle.engine.proofs.Spots.{on_text, on_simple, on_word}
 use Rattle.engine.proofs.Values.{open_inside}
@@ -57,6 +60,14 @@ words_open t rs l ls w h =
     let i = w.indentation in
     let f = record_frame i l ls [] in
     omega (arith, front_length w.frames (frames i (inside (words t) rs l ls)) h.frames, length-append (outer_frames i ls) (f ∷ (row_frames rs ++ (list_frame ∷ []))), length-append (row_frames rs) (list_frame ∷ []))
+
+-- what is promised of a string, for the two values that are one
+module _ {chosen : Use → ℕ → Bool} {s : List ℕ} {r : Result (Unit {0}) Refusal} {w v : Mem} (told : (room : ℕ) (ρ : Rule) (c : Value) → ρ.chooses ≡ chosen → IsString c ρ s → Does (call_value c) room r w v) where
+  pub as_text : (room : ℕ) (ρ : Rule) → ρ.chooses ≡ chosen → Does (call_value (val_text ρ s)) room r w v
+  as_text room ρ e = told room ρ (val_text ρ s) e (inl refl)
+
+  pub as_variant : (room : ℕ) (ρ : Rule) → ρ.chooses ≡ chosen → Does (call_value (val_variant ρ s)) room r w v
+  as_variant room ρ e = told room ρ (val_variant ρ s) e (inr refl)
 
 -- what the rows of each place rely on
 module _ (w : Mem) (s : Sound w) where

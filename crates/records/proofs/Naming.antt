@@ -23,7 +23,7 @@ use Rattle.engine.proofs.Tops.{top_flag}
 use Rattle.nests.specs.Frames.{Pushes}
 use Rattle.nests.proofs.Leaving.{nested_rest}
 use Rattle.nests.proofs.Pushing.{lays_placed, holds_row, holds_list, beyond_push}
-use Rattle.nests.proofs.Rowing.{pushes_told}
+use Rattle.nests.proofs.Rowing.{same_named, pushes_told}
 
 -- the name of an element that is still to come
 pub holds_name : (p : Bool) (rs : List Row) (l : Level) (ls : List Outer) (w : Mem) (n : List ℕ) → w.names.used + length n ≤ length w.names.all → Holds (inside (content p) rs l ls) w → Holds (inside (element (stack rs l) n) rs l ls) (name_put n w)
@@ -73,9 +73,6 @@ module _ (c : Value) (n : List ℕ) (p : Bool) (w : Mem) (a : Announces c n) (u 
 
   no_name : is_text_name n ≡ true → content_name c ≡ []
   no_name t = a.name ∙ ap (λ b. cond b [] n) t
-
-same_named : (g h : Bool) (k l a b : ℕ) → g ≡ h → k ≡ l → a ≡ b → named_frame g k a ≡ named_frame h l b
-same_named g h k l a b p q r = cc
 
 -- where a row of variants leads
 row_goes : (n : List ℕ) (p : Bool) (w : Mem) (rs : List Row) (l : Level) (ls : List Outer) (b : Bool) → is_text_name n ≡ b → next w.form (call_value (val_variant_row n)) (inside (content p) rs l ls) ≡ or_stay (inside (content p) rs l ls) (moved_if rs l ls (Some (cond b (on (words false) l.body) (opens_row (named_row (stack rs l) n (flag rs l.body))))))

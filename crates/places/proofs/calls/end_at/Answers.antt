@@ -12,7 +12,7 @@ pub end_record-requires-clause-name : goal.end_record-requires-clause-name
 end_record-requires-clause-name c = field_name_within (mem c.args.core.now) c.requires.sound c.in-Field.is
 
 pub end_attribute_list-requires-clause-open : goal.end_attribute_list-requires-clause-open
-end_attribute_list-requires-clause-open c = attribute_list_is_open (mem c.args.core.now) c.requires.sound c.in-AttributeItem.written c.in-AttributeItem.is
+end_attribute_list-requires-clause-open c = attribute_list_is_open (mem c.args.core.now) c.requires.sound c.in-AttributeItem.field-0 c.in-AttributeItem.is
 
 pub end_attribute_list-requires-clause-tag : goal.end_attribute_list-requires-clause-tag
-end_attribute_list-requires-clause-tag c = attribute_list_tag_within (mem c.args.core.now) c.requires.sound c.in-AttributeItem.written c.in-AttributeItem.is
+end_attribute_list-requires-clause-tag c = attribute_list_tag_within (mem c.args.core.now) c.requires.sound c.in-AttributeItem.field-0 c.in-AttributeItem.is
