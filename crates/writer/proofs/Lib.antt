@@ -4,4 +4,5 @@ pub mod Finishing
 pub mod Starting
 pub mod Meaning
 pub mod Running
+pub mod Holding
 pub mod Replaying

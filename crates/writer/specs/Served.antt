@@ -1,8 +1,8 @@
 -- What one call leaves in writer and sink together. Assumes nothing.
-use Rattle.std.specs.Prelude.{◌≡◌, ℕ, List, [], ◌∷◌, Ok, Err, Result}
+use Rattle.std.specs.Prelude.{◌≡◌, ℕ, Bool, true, false, List, [], ◌∷◌, Ok, Err, Result}
 use Rattle.refusal.specs.declared.Refusal.{Refusal}
 use Rattle.reader.specs.Trees.{Bytes}
-use Rattle.model.specs.Calls.{Call, Answer, accepted, refused}
+use Rattle.model.specs.Calls.{Call, call_open, call_field, call_value, call_end, call_finish, call_abandon, Answer, accepted, refused}
 use Rattle.model.specs.Model.{State}
 use Rattle.model.specs.Table.{verdict}
 use Rattle.model.specs.Run.{Session, after}
@@ -41,3 +41,19 @@ pub record Served (c : Call) (r : Result (Unit {0}) Refusal) (w v : Mem) (bs : B
 -- on every model that the memory holds
 abbrev pub Serves : Call → Result (Unit {0}) Refusal → Mem → Mem → Bytes → ℕ → Bytes → ℕ → Type 0
 Serves c r w v bs k bs' k' = (m : State) → Lays m w → Served c r w v bs k bs' k' m
+
+-- whether a ticket is held once a call is answered so, and whether one was held before: an accepted open hands one out, an
+-- accepted finish or abandon takes it, and nothing else changes that
+abbrev pub holds_on : Call → Answer → Bool → Bool
+holds_on c (refused e) held = held
+holds_on (call_open n) accepted held = true
+holds_on (call_field k) accepted held = held
+holds_on (call_value v) accepted held = held
+holds_on call_end accepted held = held
+holds_on call_finish accepted held = false
+holds_on call_abandon accepted held = false
+
+-- once all of them are
+abbrev pub holds_after : List Call → List Answer → Bool → Bool
+holds_after (c ∷ cs) (r ∷ rs) held = holds_after cs rs (holds_on c r held)
+holds_after cs rs held = held

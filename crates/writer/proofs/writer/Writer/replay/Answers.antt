@@ -1,14 +1,15 @@
 use Rattle.std.proofs.Common.{◌≡◌, length, drop, sym, refl, subst, rules}
+use Rattle.std.specs.Option.{is_some}
 use Rattle.std.proofs.lemmas.List.{take_at}
 use Rattle.engine.specs.Memory.{mem}
-use Rattle.writer.specs.Served.{all_answered}
+use Rattle.writer.specs.Served.{all_answered, holds_after}
 use Rattle.writer.specs.Replayed.{Replayed}
 use Rattle.writer.proofs.Meaning.{calls_meant}
 use Rattle.writer.proofs.Replaying.{replayed}
 use Rattle.writer.proofs.writer.Writer.replay.Goals as goal
 
 pub returns-in_default : goal.returns-in_default
-returns-in_default g c = record { meant = calls_meant g.R.EscapeRule.chooses g.met.R.EscapeRule.within g.met.R.EscapeRule.enough c.args.calls.now; replayed = (refl, refl) }
+returns-in_default g c = record { meant = calls_meant g.R.EscapeRule.chooses g.met.R.EscapeRule.within g.met.R.EscapeRule.enough c.args.calls.now; ticket = refl; replayed = (refl, refl) }
 
 pub returns : goal.returns
 returns g c =
@@ -24,5 +25,6 @@ returns g c =
     let k' = g.S.Sink.room last.sink in
     record {
       meant = calls_meant g.R.EscapeRule.chooses g.met.R.EscapeRule.within g.met.R.EscapeRule.enough c.args.calls.now;
+      ticket = λ cs are. subst (λ z. is_some c.serve_all-held.result ≡ holds_after cs (all_answered z) (is_some c.args.held)) (sym kept) (c.serve_all-held.ensures.ticket cs are);
       replayed = λ cs are. subst (λ z. Replayed cs w v bs k bs' k' (all_answered z)) (sym kept) (replayed cs w v bs k bs' k' (all_answered stored) c.args.self.now.sound (c.serve_all-held.ensures.ran cs are));
     }
