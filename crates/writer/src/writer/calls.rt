@@ -1,7 +1,8 @@
 // The calls on a writer. Each is answered by the first row of the table of refusals that applies, and refused it changes
 // nothing; else it is accepted, and the memory holds the model that the call leads to. The place alone decides what is
 // allowed, so no call has a precondition.
-ghost use Rattle.std.specs.Prelude.{◌≡◌, ℕ};
+ghost use Rattle.std.specs.Prelude.{◌≡◌, ℕ, Result};
+ghost use Rattle.refusal.specs.declared.Refusal.{Refusal};
 ghost use Rattle.model.specs.Calls as meant;
 ghost use Rattle.model.specs.Calls.{Rule, call_open, call_field, call_value, call_end, call_finish, call_abandon, val_text, val_none, val_variant, val_wrapped, val_row, val_variant_row, val_record, val_variant_record};
 ghost use Rattle.xml.specs.Escaping.{level_chooses};
@@ -11,7 +12,7 @@ ghost use Rattle.places.specs.Values.{ValueIs};
 ghost use Rattle.writer.specs.Served.{Serves, unit_of, refusal_of};
 
 use crate::sending::send;
-use crate::ticket::Ticket;
+use crate::ticket::{Ticket, spend};
 use crate::writer::Writer;
 use places::{Value, begin, begin_field, end_at, take_value};
 use refusal::Refusal;
@@ -138,5 +139,14 @@ impl Writer<'_> {
         ensures does { (room : ℕ) → Does (call_value (val_variant_record name.now)) room result (mem self.old.core) (mem self.new.core) }
     {
         self.plain(Value::VariantRecord(name))
+    }
+
+    // By `&mut`, since a writer that is passed by value gets no proof.
+    /// Ends the work with the writer: gives up the record that may be open, with its ticket, and leaves the writer idle.
+    pub fn close(&mut self, held: Option<Ticket>)
+        ensures does { (room : ℕ) → (r : Result (Unit {0}) Refusal) × Does call_abandon room r (mem self.old.core) (mem self.new.core) }
+    {
+        let _ = self.drop_record();
+        spend(held);
     }
 }
