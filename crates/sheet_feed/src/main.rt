@@ -1,102 +1,109 @@
-// Takes one trail name through the checks, the escaping and the sinks, and says at each step what happened.
+// Runs sheet scripts: reads one, makes its calls on writers, and prints what the sinks then hold, or a trace.
 #![tactic(auto)]
 
-use sink::{BufferSink, PageSink, Sink};
-use std::io;
-use style::{EmptyElementHandling, Indentation, Style};
-use xml::{QuoteLevel, Use, XmlName, escape_into, well_formed};
+mod arguments;
+mod feeding;
+mod first_task;
+mod printing;
+mod running;
+mod stop;
 
-// Every byte that escaping is about, and a letter beyond ASCII.
-const TRAIL: &str = "Höhenweg \"l'Alpe & Tal\" <T3>\trot";
+use arguments::{Output, Task, task_of};
+use feeding::Feeding;
+use std::io::{BufWriter, Read, Write};
+use std::process::ExitCode;
+use std::{env, fs, io};
+use stop::Stop;
 
-fn check_bytes(rt: &HostRuntime, bytes: &[u8]) -> io::Result<()> {
-    match well_formed(bytes) {
-        Ok(text) => println!(rt; "  well-formed: {text:?}"),
-        Err(refusal) => println!(rt; "  {refusal}"),
+const USAGE: &str = "\
+usage: sheet_feed [trace] [FILE]
+       sheet_feed help
+
+Runs the sheet script FILE, or the one on standard input, and writes the XML of
+its records to standard output and each refused call to standard error. With
+`trace`, standard output has a line for each call and what each sink holds.
+Without arguments and with nothing on standard input a built-in record is shown.
+
+Exit status: 0 the script was run, 1 it has an error, 2 anything else failed.
+";
+
+// The words after the program's name.
+fn words(rt: &HostRuntime) -> io::Result<Vec<String>> {
+    let words = env::args(rt)?.skip(1).collect(rt.alloc())?;
+    Ok(words)
+}
+
+fn standard_input(rt: &HostRuntime) -> io::Result<Vec<u8>> {
+    let mut bytes = Vec::new(rt.alloc());
+    rt.stdin().read_to_end(&mut bytes)?;
+    Ok(bytes)
+}
+
+// The exit status of a run; what stopped it is told last.
+fn ended(rt: &HostRuntime, fed: Result<(), Stop>) -> io::Result<ExitCode> {
+    match fed {
+        Ok(()) => Ok(ExitCode::SUCCESS),
+        Err(Stop::Script(error)) => {
+            eprintln!(rt; "{error}")?;
+            Ok(ExitCode::FAILURE)
+        }
+        Err(Stop::Io(error)) => Err(error),
     }
 }
 
-fn check_name(rt: &HostRuntime, name: &str) -> io::Result<()> {
-    match XmlName::try_from(name) {
-        Ok(name) => println!(rt; "  {:?} names a tag", name.as_str()),
-        Err(refusal) => println!(rt; "  {name:?} names no tag: {refusal}"),
-    }
+// Runs a script.
+fn feed(rt: &HostRuntime, output: Output, script: &[u8]) -> io::Result<ExitCode> {
+    let heap = rt.alloc();
+    let out = BufWriter::new(heap, rt.stdout())?;
+    let err = BufWriter::new(heap, rt.stderr())?;
+    let mut feeding = Feeding::new(heap, output, out, err);
+    let fed = feeding.feed(script);
+    feeding.flush()?;
+    ended(rt, fed)
 }
 
-fn report<S: Sink>(rt: &HostRuntime, label: &str, sink: &S) -> io::Result<()> {
-    let (held, room) = sink.counts();
-    println!(rt; "  {label}: {held} bytes held, room for {room}")
+// The built-in record.
+fn show(rt: &HostRuntime) -> io::Result<ExitCode> {
+    let heap = rt.alloc();
+    let mut out = BufWriter::new(heap, rt.stdout())?;
+    let shown = first_task::show(heap, &mut out);
+    out.flush()?;
+    ended(rt, shown)
 }
 
-fn put<S: Sink>(rt: &HostRuntime, label: &str, sink: &mut S, bytes: &[u8]) -> io::Result<()> {
-    if let Err(refusal) = sink.put(bytes) {
-        println!(rt; "    {label}: {refusal}")?;
-    }
-    Ok(())
-}
-
-// The name for one use under one level, into both sinks.
-fn write<A: Sink, B: Sink>(
-    rt: &HostRuntime,
-    level: QuoteLevel,
-    target: Use,
-    buffer: &mut A,
-    pages: &mut B,
-) -> io::Result<()> {
-    let mut stage = [0u8; 128];
-    match escape_into(&mut stage, 0, TRAIL.as_bytes(), &level, target) {
-        Ok(end) => {
-            let written = &stage[0..end];
-            if let Ok(text) = well_formed(written) {
-                println!(rt; "  {level:?} {target:?}: {text}")?;
+fn run(rt: &HostRuntime, task: Task<'_>) -> io::Result<ExitCode> {
+    match task {
+        Task::Usage => {
+            print!(rt; "{USAGE}")?;
+            Ok(ExitCode::SUCCESS)
+        }
+        Task::Given => {
+            let script = standard_input(rt)?;
+            if script.is_empty() {
+                show(rt)
+            } else {
+                feed(rt, Output::Plain, &script)
             }
-            put(rt, "buffer sink", buffer, written)?;
-            put(rt, "page sink", pages, written)
         }
-        Err(refusal) => println!(rt; "  {level:?} {target:?}: {refusal}"),
+        Task::Traced => feed(rt, Output::Trace, &standard_input(rt)?),
+        Task::File(output, name) => feed(rt, output, &fs::read(rt, name)?),
     }
 }
 
-fn check_style(rt: &HostRuntime, byte: u8, size: usize) -> io::Result<()> {
-    match Style::new(
-        EmptyElementHandling::SelfClosed,
-        Some(Indentation { byte, size }),
-    ) {
-        Ok(_) => println!(rt; "  byte {byte}, size {size}: a style"),
-        Err(refusal) => println!(rt; "  byte {byte}, size {size}: {refusal}"),
-    }
-}
+// An exit status of its own, beside that of a script with an error.
+const FAILED: u8 = 2;
 
-fn run_checks(rt: &HostRuntime) -> io::Result<()> {
-    println!(rt; "The bytes of a trail name are checked:")?;
-    check_bytes(rt, TRAIL.as_bytes())?;
-    check_bytes(rt, b"H\xF6henweg")?;
-
-    println!(rt; "Names of tags are checked:")?;
-    check_name(rt, "trail")?;
-    check_name(rt, TRAIL)?;
-    check_name(rt, "")?;
-
-    println!(rt; "Indentations are checked:")?;
-    check_style(rt, b' ', 2)?;
-    check_style(rt, b'-', 2)?;
-    check_style(rt, b'\t', 17)
-}
-
-fn main(rt: HostRuntime) -> io::Result<()> {
-    run_checks(&rt)?;
-
-    println!(rt; "The trail name is escaped and put into both sinks:")?;
-    let mut memory = [0u8; 512];
-    let mut buffer = BufferSink::new(&mut memory);
-    let mut pages = PageSink::new();
-    for level in [QuoteLevel::Full, QuoteLevel::Partial, QuoteLevel::Minimal] {
-        for target in [Use::Text, Use::Attribute, Use::TextItem, Use::AttributeItem] {
-            write(&rt, level, target, &mut buffer, &mut pages)?;
+fn main(rt: HostRuntime) -> io::Result<ExitCode> {
+    let words = words(&rt)?;
+    let Some(task) = task_of(&words) else {
+        eprint!(rt; "{USAGE}")?;
+        return Ok(ExitCode::from(FAILED));
+    };
+    match run(&rt, task) {
+        Ok(status) => Ok(status),
+        Err(error) => {
+            eprintln!(rt; "sheet_feed: {error}")?;
+            Ok(ExitCode::from(FAILED))
         }
     }
-
-    println!(rt; "The sinks answer:")?;
-    report(&rt, "buffer sink", &buffer)?;
-    report(&rt, "page sink", &pages)
 }

@@ -1,0 +1,4 @@
+pub mod Setups
+pub mod Making
+pub mod Batches
+pub mod Telling

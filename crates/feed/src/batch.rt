@@ -1,0 +1,95 @@
+// What a script says of one writer.
+ghost use Rattle.std.specs.Prelude.{◌≡◌, true, false, OnOk, OnErr, IfOk};
+ghost use Rattle.script.specs.Order.{role};
+ghost use Rattle.script.specs.declared.order.Role.TheVariants.{Calls};
+ghost use Rattle.feed.specs.Batches.{says_something, Begins, AddsCall, Sets, Goes};
+
+use crate::call_line::CallLine;
+use crate::setup::Setup;
+use script::{Line, Numbered, Role};
+use std::alloc::{AllocError, Global};
+use std::mem;
+
+/// The settings of one writer, and its calls with their lines.
+#[derive(Drop)]
+pub struct Batch {
+    pub setup: Setup,
+    pub calls: Vec<CallLine>,
+    /// Whether a trace tells of the writer: of the one at the start only where anything was said of it.
+    pub reported: bool,
+}
+
+// Whether a line says anything.
+fn says_something(line: &Line) -> bool
+    ensures value { result ≡ says_something line.now }
+{
+    !matches!(line, Line::Blank)
+}
+
+impl Batch {
+    /// The batch of the writer that is there at the start.
+    pub fn at_start(heap: Global) -> Batch
+        ensures begins { Begins result 1 false }
+    {
+        Batch {
+            setup: Setup::new(1),
+            calls: Vec::new(heap),
+            reported: false,
+        }
+    }
+
+    // The batch of a writer that `new` makes at this line.
+    fn at_new(heap: Global, line: usize) -> Batch
+        ensures begins { Begins result line true }
+    {
+        Batch {
+            setup: Setup::new(line),
+            calls: Vec::new(heap),
+            reported: true,
+        }
+    }
+
+    // Takes a line that makes a call.
+    fn add_call(&mut self, numbered: Numbered) -> Result<(), AllocError>
+        requires calls { role numbered.line ≡ Calls }
+        ensures ok { OnOk result (AddsCall self.old numbered.number numbered.line self.new) }
+        ensures err { OnErr result (self.new.calls.items ≡ self.old.calls.items) }
+    {
+        self.calls.push(CallLine {
+            number: numbered.number,
+            line: numbered.line,
+            level: self.setup.level,
+        })?;
+        self.reported = true;
+        Ok(())
+    }
+
+    // Takes a line that makes none.
+    fn set(&mut self, numbered: &Numbered)
+        ensures sets { Sets self.old numbered.now.number numbered.now.line self.new }
+    {
+        self.setup = self.setup.after(numbered);
+        self.reported = self.reported | says_something(&numbered.line);
+    }
+
+    /// Takes a line. Where it is `new`, the batch of the writer before it is handed out, and this is the new writer's.
+    pub fn take(&mut self, heap: Global, numbered: Numbered) -> Result<Option<Batch>, AllocError>
+        ensures goes { IfOk result (λ done. Goes done self.old numbered.number numbered.line self.new) }
+        ensures err { OnErr result (self.new.calls.items ≡ self.old.calls.items) }
+    {
+        match numbered.line.role() {
+            Role::Starts => {
+                let next = Batch::at_new(heap, numbered.number);
+                Ok(Some(mem::replace(self, next)))
+            }
+            Role::Calls => {
+                self.add_call(numbered)?;
+                Ok(None)
+            }
+            Role::Sets | Role::Anywhere => {
+                self.set(&numbered);
+                Ok(None)
+            }
+        }
+    }
+}

@@ -1,0 +1,12 @@
+// From the lines of a script to the settings and the calls of each writer, and from answers to the lines that tell them.
+#![tactic(auto)]
+
+mod batch;
+mod call_line;
+mod setup;
+mod telling;
+
+pub use batch::Batch;
+pub use call_line::CallLine;
+pub use setup::{Setting, Setup};
+pub use telling::{Counted, Told, Traced, bytes_line};

@@ -1,0 +1,63 @@
+// What is printed of a writer: the refusals of its calls, the XML of its sink, or its trace.
+use crate::running::{Outcome, Ran};
+use feed::{Batch, CallLine, Counted, Told, Traced, bytes_line};
+use refusal::Refusal;
+use std::alloc::Global;
+use std::io::{self, Write};
+use writer::Answer;
+
+fn print_refusal<E: Write>(err: &mut E, line: usize, refusal: Refusal) -> io::Result<()> {
+    let told = Told { line, refusal };
+    writeln!(err, "{told}")
+}
+
+// The refused calls, in their order.
+fn print_refused<E: Write>(err: &mut E, calls: &[CallLine], answers: &[Answer]) -> io::Result<()> {
+    for (call, answer) in calls.iter().zip(answers) {
+        if let Err(refusal) = answer {
+            print_refusal(err, call.number, *refusal)?;
+        }
+    }
+    Ok(())
+}
+
+/// Each refusal with the line that it answers: a style's with that of the style.
+pub fn print_refusals<E: Write>(err: &mut E, batch: &Batch, outcome: &Outcome) -> io::Result<()> {
+    match outcome {
+        Outcome::NoStyle(refusal) => print_refusal(err, batch.setup.style.line, *refusal),
+        Outcome::Ran(ran) => print_refused(err, &batch.calls, &ran.answers),
+    }
+}
+
+/// The XML that the sink holds, and not a byte more.
+pub fn print_xml<O: Write>(out: &mut O, outcome: &Outcome) -> io::Result<()> {
+    match outcome {
+        Outcome::NoStyle(_) => Ok(()),
+        Outcome::Ran(ran) => out.write_all(&ran.bytes),
+    }
+}
+
+// The answers, then how much the sink holds, and what.
+fn print_ran<O: Write>(heap: Global, out: &mut O, ran: &Ran) -> io::Result<()> {
+    for answer in &ran.answers {
+        let answer = Traced(*answer);
+        writeln!(out, "{answer}")?;
+    }
+    let counted = Counted {
+        held: ran.bytes.len(),
+        room: ran.room,
+    };
+    let line = bytes_line(heap, &ran.bytes)?;
+    writeln!(out, "{counted}\n{line}")
+}
+
+/// The trace of a writer.
+pub fn print_trace<O: Write>(heap: Global, out: &mut O, outcome: &Outcome) -> io::Result<()> {
+    match outcome {
+        Outcome::NoStyle(refusal) => {
+            let answer = Traced(Err(*refusal));
+            writeln!(out, "{answer}")
+        }
+        Outcome::Ran(ran) => print_ran(heap, out, ran),
+    }
+}

@@ -1,0 +1,146 @@
+// Runs the calls of one writer, on memory from the heap that is free again when the run is over.
+ghost use Rattle.std.specs.Prelude.{◌≡◌, ℕ, take, IfOk};
+ghost use Rattle.sink.specs.Pages.{flat};
+ghost use Rattle.script.specs.declared.fault.Fault.TheVariants.{Memory};
+
+use feed::{Batch, CallLine};
+use model::Frame;
+use refusal::Refusal;
+use script::{Fault, ScriptError, SinkChoice, Sizes};
+use sink::{BufferSink, PageSink, Sink};
+use std::alloc::{AllocError, Global};
+use style::Style;
+use writer::{Answer, Call, Writer};
+use xml::QuoteLevel;
+
+/// The answers to a writer's calls, and what its sink holds and has room for in the end.
+#[derive(Drop)]
+pub struct Ran {
+    pub answers: Vec<Answer>,
+    pub bytes: Vec<u8>,
+    pub room: usize,
+}
+
+/// What became of a writer.
+#[derive(Drop)]
+pub enum Outcome {
+    /// Its style was refused, and its calls were passed over.
+    NoStyle(Refusal),
+    Ran(Ran),
+}
+
+// The calls that lines make.
+fn calls_of(heap: Global, lines: &[CallLine]) -> Result<Vec<Call<'_, QuoteLevel>>, AllocError> {
+    let mut calls = Vec::with_capacity(heap, lines.len())?;
+    for line in lines {
+        calls.push(line.call())?;
+    }
+    Ok(calls)
+}
+
+// A new writer over memory of these sizes makes the calls.
+fn run_on<S: Sink>(
+    heap: Global,
+    style: Style,
+    sizes: Sizes,
+    sink: &mut S,
+    calls: &[Call<'_, QuoteLevel>],
+) -> Result<Vec<Answer>, Fault> {
+    let mut stage = vec![in heap; 0; sizes.stage]?;
+    let mut names = vec![in heap; 0; sizes.names]?;
+    let mut frames = vec![in heap; Frame::list(); sizes.frames]?;
+    let mut writer = Writer::new(style, &mut stage, &mut names, &mut frames);
+    match writer.replay(heap, None, sink, calls) {
+        Ok((answers, ticket)) => {
+            writer.close(ticket);
+            Ok(answers)
+        }
+        Err(ticket) => {
+            writer.close(ticket);
+            Err(Fault::Memory)
+        }
+    }
+}
+
+// Want of memory is told at the line of the setting that asks for it.
+fn wanting(line: usize) -> ScriptError
+    ensures line { result.line ≡ line }
+    ensures fault { result.fault ≡ Memory }
+{
+    ScriptError {
+        line,
+        fault: Fault::Memory,
+    }
+}
+
+// The batch on a sink: what its calls are answered.
+fn answers_on<S: Sink>(
+    heap: Global,
+    style: Style,
+    batch: &Batch,
+    sink: &mut S,
+) -> Result<Vec<Answer>, ScriptError> {
+    let memory = batch.setup.memory;
+    let wants = |_| wanting(memory.line);
+    let calls = calls_of(heap, &batch.calls).map_err(wants)?;
+    run_on(heap, style, memory.value, sink, &calls).map_err(|_| wanting(memory.line))
+}
+
+fn in_buffer(
+    heap: Global,
+    style: Style,
+    batch: &Batch,
+    size: usize,
+) -> Result<Outcome, ScriptError> {
+    let line = batch.setup.sink.line;
+    let mut memory = vec![in heap; 0; size].map_err(|_| wanting(line))?;
+    let mut sink = BufferSink::new(&mut memory);
+    let answers = answers_on(heap, style, batch, &mut sink)?;
+    let (_, room) = sink.counts();
+    let bytes = sink.held().to_vec(heap).map_err(|_| wanting(line))?;
+    Ok(Outcome::Ran(Ran {
+        answers,
+        bytes,
+        room,
+    }))
+}
+
+// All bytes that a paged sink holds.
+fn bytes_of(heap: Global, sink: &PageSink) -> Result<Vec<u8>, AllocError>
+    ensures value { IfOk result (λ bytes. bytes.items ≡ take sink.now.len (flat sink.now.pages.pages)) }
+{
+    let (len, _) = sink.counts();
+    let mut bytes = vec![in heap; 0; len]?;
+    for at in 0..len {
+        if let Some(byte) = sink.get(at) {
+            bytes[at] = byte;
+        }
+    }
+    Ok(bytes)
+}
+
+fn in_pages(heap: Global, style: Style, batch: &Batch) -> Result<Outcome, ScriptError> {
+    let line = batch.setup.sink.line;
+    let mut sink = PageSink::new();
+    let answers = answers_on(heap, style, batch, &mut sink)?;
+    let (_, room) = sink.counts();
+    let bytes = bytes_of(heap, &sink).map_err(|_| wanting(line))?;
+    Ok(Outcome::Ran(Ran {
+        answers,
+        bytes,
+        room,
+    }))
+}
+
+/// Makes the calls of a batch on a new writer.
+pub fn run(heap: Global, batch: &Batch) -> Result<Outcome, ScriptError> {
+    let layout = batch.setup.style.value;
+    let style = match Style::new(layout.empty_elements, layout.indentation) {
+        Ok(style) => style,
+        Err(refusal) => return Ok(Outcome::NoStyle(refusal)),
+    };
+    match batch.setup.sink.value {
+        SinkChoice::Buffer(size) => in_buffer(heap, style, batch, size),
+        SinkChoice::Pages => in_pages(heap, style, batch),
+    }
+}
