@@ -9,6 +9,7 @@ use Rattle.model.specs.Calls as model
 use Rattle.model.specs.Calls.{Rule, call_open, call_field, call_value, call_end, call_finish, call_abandon, val_text, val_none, val_variant, val_wrapped, val_row, val_variant_row, val_record, val_variant_record}
 use Rattle.writer.specs.declared.call.Call.{Call}
 use Rattle.writer.specs.Spelled.{CallIs}
+use Rattle.feed.specs.declared.call_line.CallLine.{CallLine}
 
 -- the rule that a level is
 abbrev pub rule_of : QuoteLevel → Rule
@@ -39,3 +40,13 @@ call_of level Abandon = Some call_abandon
 -- the call in code is the one that the line makes
 abbrev pub Makes : Call QuoteLevel → QuoteLevel → Line → Type 0
 Makes x level line = (c : model.Call) × CallIs level_chooses x c × (call_of level line ≡ Some c)
+
+-- one more call in front, if there is one
+abbrev pub with_call : Option model.Call → List model.Call → List model.Call
+with_call None cs = cs
+with_call (Some c) cs = c ∷ cs
+
+-- the calls that lines make, one after another
+abbrev pub calls_made : List CallLine → List model.Call
+calls_made [] = []
+calls_made (l ∷ ls) = with_call (call_of l.level l.line) (calls_made ls)

@@ -3,10 +3,12 @@
 
 mod batch;
 mod call_line;
+mod calling;
 mod setup;
 mod telling;
 
 pub use batch::Batch;
 pub use call_line::CallLine;
+pub use calling::calls_of;
 pub use setup::{Setting, Setup};
 pub use telling::{Counted, Told, Traced, bytes_line};
