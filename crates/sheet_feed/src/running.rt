@@ -1,9 +1,16 @@
 // Runs the calls of one writer, on memory from the heap that is free again when the run is over.
-ghost use Rattle.std.specs.Prelude.{◌≡◌, ℕ, take, IfOk};
-ghost use Rattle.sink.specs.Pages.{flat};
+ghost use Rattle.std.specs.Prelude.{◌≡◌, ℕ, List, take, IfOk};
 ghost use Rattle.script.specs.declared.fault.Fault.TheVariants.{Memory};
+ghost use Rattle.script.specs.declared.settings.SinkChoice.TheVariants.{Buffer, Pages};
+ghost use Rattle.xml.specs.Escaping.{level_chooses};
+ghost use Rattle.sink.specs.Pages.{flat};
+ghost use Rattle.model.specs.Calls as meant;
+ghost use Rattle.writer.specs.Spelled.{CallsAre};
+ghost use Rattle.writer.specs.Served.{all_answered};
+ghost use Rattle.feed.specs.Making.{calls_made};
+ghost use Rattle.sheet_feed.specs.Running.{Made, IsRunOf, Becomes};
 
-use feed::{Batch, CallLine};
+use feed::{Batch, calls_of};
 use model::Frame;
 use refusal::Refusal;
 use script::{Fault, ScriptError, SinkChoice, Sizes};
@@ -29,15 +36,6 @@ pub enum Outcome {
     Ran(Ran),
 }
 
-// The calls that lines make.
-fn calls_of(heap: Global, lines: &[CallLine]) -> Result<Vec<Call<'_, QuoteLevel>>, AllocError> {
-    let mut calls = Vec::with_capacity(heap, lines.len())?;
-    for line in lines {
-        calls.push(line.call())?;
-    }
-    Ok(calls)
-}
-
 // A new writer over memory of these sizes makes the calls.
 fn run_on<S: Sink>(
     heap: Global,
@@ -45,7 +43,9 @@ fn run_on<S: Sink>(
     sizes: Sizes,
     sink: &mut S,
     calls: &[Call<'_, QuoteLevel>],
-) -> Result<Vec<Answer>, Fault> {
+) -> Result<Vec<Answer>, Fault>
+    ensures made { IfOk result (λ answers. (cs : List meant.Call) → CallsAre level_chooses calls.now cs → Made style.empty_elements style.indentation sizes cs (S.held sink.old) (S.room sink.old) (S.held sink.new) (S.room sink.new) (all_answered answers.items)) }
+{
     let mut stage = vec![in heap; 0; sizes.stage]?;
     let mut names = vec![in heap; 0; sizes.names]?;
     let mut frames = vec![in heap; Frame::list(); sizes.frames]?;
@@ -79,30 +79,30 @@ fn answers_on<S: Sink>(
     style: Style,
     batch: &Batch,
     sink: &mut S,
-) -> Result<Vec<Answer>, ScriptError> {
+) -> Result<Vec<Answer>, ScriptError>
+    ensures made { IfOk result (λ answers. Made style.empty_elements style.indentation batch.now.setup.memory.value (calls_made batch.now.calls.items) (S.held sink.old) (S.room sink.old) (S.held sink.new) (S.room sink.new) (all_answered answers.items)) }
+{
     let memory = batch.setup.memory;
     let wants = |_| wanting(memory.line);
     let calls = calls_of(heap, &batch.calls).map_err(wants)?;
     run_on(heap, style, memory.value, sink, &calls).map_err(|_| wanting(memory.line))
 }
 
-fn in_buffer(
-    heap: Global,
-    style: Style,
-    batch: &Batch,
-    size: usize,
-) -> Result<Outcome, ScriptError> {
+fn in_buffer(heap: Global, style: Style, batch: &Batch, size: usize) -> Result<Ran, ScriptError>
+    requires style { (style.empty_elements ≡ batch.now.setup.style.value.empty_elements) × (style.indentation ≡ batch.now.setup.style.value.indentation) }
+    ensures run { IfOk result (IsRunOf batch.now (Buffer size)) }
+{
     let line = batch.setup.sink.line;
     let mut memory = vec![in heap; 0; size].map_err(|_| wanting(line))?;
     let mut sink = BufferSink::new(&mut memory);
     let answers = answers_on(heap, style, batch, &mut sink)?;
     let (_, room) = sink.counts();
     let bytes = sink.held().to_vec(heap).map_err(|_| wanting(line))?;
-    Ok(Outcome::Ran(Ran {
+    Ok(Ran {
         answers,
         bytes,
         room,
-    }))
+    })
 }
 
 // All bytes that a paged sink holds.
@@ -119,28 +119,33 @@ fn bytes_of(heap: Global, sink: &PageSink) -> Result<Vec<u8>, AllocError>
     Ok(bytes)
 }
 
-fn in_pages(heap: Global, style: Style, batch: &Batch) -> Result<Outcome, ScriptError> {
+fn in_pages(heap: Global, style: Style, batch: &Batch) -> Result<Ran, ScriptError>
+    requires style { (style.empty_elements ≡ batch.now.setup.style.value.empty_elements) × (style.indentation ≡ batch.now.setup.style.value.indentation) }
+    ensures run { IfOk result (IsRunOf batch.now Pages) }
+{
     let line = batch.setup.sink.line;
     let mut sink = PageSink::new();
     let answers = answers_on(heap, style, batch, &mut sink)?;
     let (_, room) = sink.counts();
     let bytes = bytes_of(heap, &sink).map_err(|_| wanting(line))?;
-    Ok(Outcome::Ran(Ran {
+    Ok(Ran {
         answers,
         bytes,
         room,
-    }))
+    })
 }
 
 /// Makes the calls of a batch on a new writer.
-pub fn run(heap: Global, batch: &Batch) -> Result<Outcome, ScriptError> {
+pub fn run(heap: Global, batch: &Batch) -> Result<Outcome, ScriptError>
+    ensures becomes { IfOk result (Becomes batch.now) }
+{
     let layout = batch.setup.style.value;
     let style = match Style::new(layout.empty_elements, layout.indentation) {
         Ok(style) => style,
         Err(refusal) => return Ok(Outcome::NoStyle(refusal)),
     };
     match batch.setup.sink.value {
-        SinkChoice::Buffer(size) => in_buffer(heap, style, batch, size),
-        SinkChoice::Pages => in_pages(heap, style, batch),
+        SinkChoice::Buffer(size) => Ok(Outcome::Ran(in_buffer(heap, style, batch, size)?)),
+        SinkChoice::Pages => Ok(Outcome::Ran(in_pages(heap, style, batch)?)),
     }
 }

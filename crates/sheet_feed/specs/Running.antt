@@ -1,0 +1,42 @@
+-- What becomes of a batch: its style is refused, or its calls are made, all in one run, on a new writer and a new sink. Assumes nothing.
+use Rattle.std.specs.Prelude.{◌≡◌, ℕ, true, false, List, [], take, replicate, vec_items, Option}
+use Rattle.refusal.specs.Refusals.{Refuses}
+use Rattle.style.specs.declared.style.EmptyElementHandling.{EmptyElementHandling}
+use Rattle.style.specs.declared.indentation.Indentation.{Indentation}
+use Rattle.style.specs.Indents.{allowed}
+use Rattle.script.specs.declared.settings.Sizes.{Sizes}
+use Rattle.script.specs.declared.settings.SinkChoice.{SinkChoice}
+use Rattle.script.specs.declared.settings.SinkChoice.TheVariants.{Buffer, Pages}
+use Rattle.reader.specs.Trees.{Bytes}
+use Rattle.model.specs.Calls.{Call, Answer}
+use Rattle.model.specs.Layout.{list_frame}
+use Rattle.engine.specs.Memory.{Mem}
+use Rattle.writer.specs.Starting.{starting}
+use Rattle.writer.specs.Served.{all_answered}
+use Rattle.writer.specs.Replayed.{Replayed}
+use Rattle.feed.specs.declared.batch.Batch.{Batch}
+use Rattle.feed.specs.Making.{calls_made}
+use Rattle.sheet_feed.specs.declared.running.Ran.{Ran as Record}
+use Rattle.sheet_feed.specs.declared.running.Outcome.{Outcome}
+use Rattle.sheet_feed.specs.declared.running.Outcome.TheVariants.{NoStyle, Ran}
+
+-- a new writer over memory of these sizes
+abbrev pub new_writer : EmptyElementHandling → Option Indentation → Sizes → Mem
+new_writer form indentation sizes = starting form indentation (take 65536 (replicate sizes.stage 0)) (take 4096 (replicate sizes.names 0)) (take 64 (replicate sizes.frames list_frame))
+
+-- the calls cs on a new writer, and on a sink that held bs and had room k before, and holds bs' and has room k' then
+abbrev pub Made : EmptyElementHandling → Option Indentation → Sizes → List Call → Bytes → ℕ → Bytes → ℕ → List Answer → Type 0
+Made form indentation sizes cs bs k bs' k' rs = (v : Mem) × Replayed cs (new_writer form indentation sizes) v bs k bs' k' rs
+
+-- the room of a new sink
+abbrev pub size_of : SinkChoice → ℕ
+size_of (Buffer n) = n
+size_of Pages = 4096
+
+-- the calls of the batch are made, and these are the answers, and what its sink holds and has room for
+abbrev pub IsRunOf : Batch → SinkChoice → Record → Type 0
+IsRunOf b choice r = Made b.setup.style.value.empty_elements b.setup.style.value.indentation b.setup.memory.value (calls_made (vec_items b.calls)) [] (size_of choice) (vec_items r.bytes) r.room (all_answered (vec_items r.answers))
+
+abbrev pub Becomes : Batch → Outcome → Type 0
+Becomes b (NoStyle e) = (allowed b.setup.style.value.indentation ≡ false) × Refuses 10 0 e
+Becomes b (Ran r) = IsRunOf b b.setup.sink.value r
