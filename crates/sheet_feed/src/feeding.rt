@@ -1,6 +1,4 @@
 // Takes a script line by line, runs each writer where the next begins or the script ends, and prints what became of it.
-ghost use Rattle.std.specs.Prelude.{◌≡◌};
-
 use crate::arguments::Output;
 use crate::printing::{print_refusals, print_trace, print_xml};
 use crate::running::run;
@@ -89,3 +87,6 @@ impl<O: Write + Drop, E: Write + Drop> Feeding<O, E> {
         }
     }
 }
+
+#[cfg(test)]
+mod tests;

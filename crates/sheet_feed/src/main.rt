@@ -27,6 +27,9 @@ Without arguments and with nothing on standard input a built-in record is shown.
 Exit status: 0 the script was run, 1 it has an error, 2 anything else failed.
 ";
 
+// The exit status of what fails beside a script with an error.
+const FAILED: u8 = 2;
+
 // The words after the program's name.
 fn words(rt: &HostRuntime) -> io::Result<Vec<String>> {
     let words = env::args(rt)?.skip(1).collect(rt.alloc())?;
@@ -71,6 +74,16 @@ fn show(rt: &HostRuntime) -> io::Result<ExitCode> {
     ended(rt, shown)
 }
 
+fn feed_file(rt: &HostRuntime, output: Output, name: &str) -> io::Result<ExitCode> {
+    match fs::read(rt, name) {
+        Ok(script) => feed(rt, output, &script),
+        Err(error) => {
+            eprintln!(rt; "{name}: {error}")?;
+            Ok(ExitCode::from(FAILED))
+        }
+    }
+}
+
 fn run(rt: &HostRuntime, task: Task<'_>) -> io::Result<ExitCode> {
     match task {
         Task::Usage => {
@@ -86,12 +99,9 @@ fn run(rt: &HostRuntime, task: Task<'_>) -> io::Result<ExitCode> {
             }
         }
         Task::Traced => feed(rt, Output::Trace, &standard_input(rt)?),
-        Task::File(output, name) => feed(rt, output, &fs::read(rt, name)?),
+        Task::File(output, name) => feed_file(rt, output, name),
     }
 }
-
-// An exit status of its own, beside that of a script with an error.
-const FAILED: u8 = 2;
 
 fn main(rt: HostRuntime) -> io::Result<ExitCode> {
     let words = words(&rt)?;
@@ -102,7 +112,7 @@ fn main(rt: HostRuntime) -> io::Result<ExitCode> {
     match run(&rt, task) {
         Ok(status) => Ok(status),
         Err(error) => {
-            eprintln!(rt; "sheet_feed: {error}")?;
+            eprintln!(rt; "{error}")?;
             Ok(ExitCode::from(FAILED))
         }
     }
