@@ -54,8 +54,7 @@ fn ended(rt: &HostRuntime, fed: Result<(), Stop>) -> io::Result<ExitCode> {
     }
 }
 
-// Runs a script.
-fn feed(rt: &HostRuntime, output: Output, script: &[u8]) -> io::Result<ExitCode> {
+fn run_script(rt: &HostRuntime, output: Output, script: &[u8]) -> io::Result<ExitCode> {
     let heap = rt.alloc();
     let out = BufWriter::new(heap, rt.stdout())?;
     let err = BufWriter::new(heap, rt.stderr())?;
@@ -65,7 +64,7 @@ fn feed(rt: &HostRuntime, output: Output, script: &[u8]) -> io::Result<ExitCode>
     ended(rt, fed)
 }
 
-// The built-in record.
+// Shows the built-in record.
 fn show(rt: &HostRuntime) -> io::Result<ExitCode> {
     let heap = rt.alloc();
     let mut out = BufWriter::new(heap, rt.stdout())?;
@@ -74,9 +73,9 @@ fn show(rt: &HostRuntime) -> io::Result<ExitCode> {
     ended(rt, shown)
 }
 
-fn feed_file(rt: &HostRuntime, output: Output, name: &str) -> io::Result<ExitCode> {
+fn run_file(rt: &HostRuntime, output: Output, name: &str) -> io::Result<ExitCode> {
     match fs::read(rt, name) {
-        Ok(script) => feed(rt, output, &script),
+        Ok(script) => run_script(rt, output, &script),
         Err(error) => {
             eprintln!(rt; "{name}: {error}")?;
             Ok(ExitCode::from(FAILED))
@@ -84,7 +83,7 @@ fn feed_file(rt: &HostRuntime, output: Output, name: &str) -> io::Result<ExitCod
     }
 }
 
-fn run(rt: &HostRuntime, task: Task<'_>) -> io::Result<ExitCode> {
+fn perform(rt: &HostRuntime, task: Task<'_>) -> io::Result<ExitCode> {
     match task {
         Task::Usage => {
             print!(rt; "{USAGE}")?;
@@ -95,25 +94,31 @@ fn run(rt: &HostRuntime, task: Task<'_>) -> io::Result<ExitCode> {
             if script.is_empty() {
                 show(rt)
             } else {
-                feed(rt, Output::Plain, &script)
+                run_script(rt, Output::Plain, &script)
             }
         }
-        Task::Traced => feed(rt, Output::Trace, &standard_input(rt)?),
-        Task::File(output, name) => feed_file(rt, output, name),
+        Task::Traced => run_script(rt, Output::Trace, &standard_input(rt)?),
+        Task::File(output, name) => run_file(rt, output, name),
     }
 }
 
-fn main(rt: HostRuntime) -> io::Result<ExitCode> {
-    let words = words(&rt)?;
-    let Some(task) = task_of(&words) else {
-        eprint!(rt; "{USAGE}")?;
-        return Ok(ExitCode::from(FAILED));
-    };
-    match run(&rt, task) {
-        Ok(status) => Ok(status),
-        Err(error) => {
-            eprintln!(rt; "{error}")?;
+fn run(rt: &HostRuntime) -> io::Result<ExitCode> {
+    let words = words(rt)?;
+    match task_of(&words) {
+        Some(task) => perform(rt, task),
+        None => {
+            eprint!(rt; "{USAGE}")?;
             Ok(ExitCode::from(FAILED))
+        }
+    }
+}
+
+fn main(rt: HostRuntime) -> ExitCode {
+    match run(&rt) {
+        Ok(status) => status,
+        Err(error) => {
+            let _ = eprintln!(rt; "{error}");
+            ExitCode::from(FAILED)
         }
     }
 }

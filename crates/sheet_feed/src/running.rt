@@ -83,9 +83,12 @@ fn answers_on<S: Sink>(
     ensures made { IfOk result (λ answers. Made style.empty_elements style.indentation batch.now.setup.memory.value (calls_made batch.now.calls.items) (S.held sink.old) (S.room sink.old) (S.held sink.new) (S.room sink.new) (all_answered answers.items)) }
 {
     let memory = batch.setup.memory;
-    let wants = |_| wanting(memory.line);
-    let calls = calls_of(heap, &batch.calls).map_err(wants)?;
-    run_on(heap, style, memory.value, sink, &calls).map_err(|_| wanting(memory.line))
+    let at_line = |fault| ScriptError {
+        line: memory.line,
+        fault,
+    };
+    let calls = calls_of(heap, &batch.calls).map_err(|_| wanting(memory.line))?;
+    run_on(heap, style, memory.value, sink, &calls).map_err(at_line)
 }
 
 fn in_buffer(heap: Global, style: Style, batch: &Batch, size: usize) -> Result<Ran, ScriptError>
