@@ -1,5 +1,5 @@
 -- What becomes of a batch: its style is refused, or its calls are made, all in one run, on a new writer and a new sink. Assumes nothing.
-use Rattle.std.specs.Prelude.{◌≡◌, ℕ, true, false, List, [], take, replicate, vec_items, Option}
+use Rattle.std.specs.Prelude.{◌≡◌, ℕ, false, List, [], take, replicate, vec_items, Option}
 use Rattle.refusal.specs.Refusals.{Refuses}
 use Rattle.style.specs.declared.style.EmptyElementHandling.{EmptyElementHandling}
 use Rattle.style.specs.declared.indentation.Indentation.{Indentation}

@@ -1,5 +1,5 @@
 // Runs the calls of one writer, on memory from the heap that is free again when the run is over.
-ghost use Rattle.std.specs.Prelude.{◌≡◌, ℕ, List, take, IfOk};
+ghost use Rattle.std.specs.Prelude.{◌≡◌, ℕ, List, take, IfOk, IfErr};
 ghost use Rattle.script.specs.declared.fault.Fault.TheVariants.{Memory};
 ghost use Rattle.script.specs.declared.settings.SinkChoice.TheVariants.{Buffer, Pages};
 ghost use Rattle.xml.specs.Escaping.{level_chooses};
@@ -45,6 +45,7 @@ fn run_on<S: Sink>(
     calls: &[Call<'_, QuoteLevel>],
 ) -> Result<Vec<Answer>, Fault>
     ensures made { IfOk result (λ answers. (cs : List meant.Call) → CallsAre level_chooses calls.now cs → Made style.empty_elements style.indentation sizes cs (S.held sink.old) (S.room sink.old) (S.held sink.new) (S.room sink.new) (all_answered answers.items)) }
+    ensures err { IfErr result (λ fault. fault ≡ Memory) }
 {
     let mut stage = vec![in heap; 0; sizes.stage]?;
     let mut names = vec![in heap; 0; sizes.names]?;
@@ -81,6 +82,7 @@ fn answers_on<S: Sink>(
     sink: &mut S,
 ) -> Result<Vec<Answer>, ScriptError>
     ensures made { IfOk result (λ answers. Made style.empty_elements style.indentation batch.now.setup.memory.value (calls_made batch.now.calls.items) (S.held sink.old) (S.room sink.old) (S.held sink.new) (S.room sink.new) (all_answered answers.items)) }
+    ensures err { IfErr result (λ e. e.fault ≡ Memory) }
 {
     let memory = batch.setup.memory;
     let at_line = |fault| ScriptError {
@@ -94,6 +96,7 @@ fn answers_on<S: Sink>(
 fn in_buffer(heap: Global, style: Style, batch: &Batch, size: usize) -> Result<Ran, ScriptError>
     requires style { (style.empty_elements ≡ batch.now.setup.style.value.empty_elements) × (style.indentation ≡ batch.now.setup.style.value.indentation) }
     ensures run { IfOk result (IsRunOf batch.now (Buffer size)) }
+    ensures err { IfErr result (λ e. e.fault ≡ Memory) }
 {
     let line = batch.setup.sink.line;
     let mut memory = vec![in heap; 0; size].map_err(|_| wanting(line))?;
@@ -125,6 +128,7 @@ fn bytes_of(heap: Global, sink: &PageSink) -> Result<Vec<u8>, AllocError>
 fn in_pages(heap: Global, style: Style, batch: &Batch) -> Result<Ran, ScriptError>
     requires style { (style.empty_elements ≡ batch.now.setup.style.value.empty_elements) × (style.indentation ≡ batch.now.setup.style.value.indentation) }
     ensures run { IfOk result (IsRunOf batch.now Pages) }
+    ensures err { IfErr result (λ e. e.fault ≡ Memory) }
 {
     let line = batch.setup.sink.line;
     let mut sink = PageSink::new();
@@ -138,9 +142,10 @@ fn in_pages(heap: Global, style: Style, batch: &Batch) -> Result<Ran, ScriptErro
     })
 }
 
-/// Makes the calls of a batch on a new writer.
+/// Makes the calls of a batch on a new writer. Only want of memory is an error, told at the line that asks for it.
 pub fn run(heap: Global, batch: &Batch) -> Result<Outcome, ScriptError>
     ensures becomes { IfOk result (Becomes batch.now) }
+    ensures err { IfErr result (λ e. e.fault ≡ Memory) }
 {
     let layout = batch.setup.style.value;
     let style = match Style::new(layout.empty_elements, layout.indentation) {

@@ -1,4 +1,4 @@
-use Rattle.std.proofs.Common.{rules, ◌≡◌, refl}
+use Rattle.std.proofs.Common.{rules, refl}
 use Rattle.model.specs.Calls.{call_value, val_text, val_none, val_variant, val_wrapped, val_row, val_variant_row, val_record, val_variant_record}
 use Rattle.feed.specs.Making.{rule_of}
 use Rattle.feed.proofs.call_line.CallLine.call.Goals as goal
