@@ -1,5 +1,6 @@
 -- What becomes of a batch: its style is refused, or its calls are made, all in one run, on a new writer and a new sink. Assumes nothing.
-use Rattle.std.specs.Prelude.{◌≡◌, ℕ, false, List, [], take, replicate, vec_items, Option}
+use Rattle.std.specs.Prelude.{◌≡◌, ℕ, false, List, [], take, replicate, vec_items, Option, Ok, Err, Result}
+use Rattle.refusal.specs.declared.Refusal.{Refusal}
 use Rattle.refusal.specs.Refusals.{Refuses}
 use Rattle.style.specs.declared.style.EmptyElementHandling.{EmptyElementHandling}
 use Rattle.style.specs.declared.indentation.Indentation.{Indentation}
@@ -17,8 +18,6 @@ use Rattle.writer.specs.Replayed.{Replayed}
 use Rattle.feed.specs.declared.batch.Batch.{Batch}
 use Rattle.feed.specs.Making.{calls_made}
 use Rattle.sheet_feed.specs.declared.running.Ran.{Ran as Record}
-use Rattle.sheet_feed.specs.declared.running.Outcome.{Outcome}
-use Rattle.sheet_feed.specs.declared.running.Outcome.TheVariants.{NoStyle, Ran}
 
 -- a new writer over memory of these sizes
 abbrev pub new_writer : EmptyElementHandling → Option Indentation → Sizes → Mem
@@ -37,6 +36,6 @@ size_of Pages = 4096
 abbrev pub IsRunOf : Batch → SinkChoice → Record → Type 0
 IsRunOf b choice r = Made b.setup.style.value.empty_elements b.setup.style.value.indentation b.setup.memory.value (calls_made (vec_items b.calls)) [] (size_of choice) (vec_items r.bytes) r.room (all_answered (vec_items r.answers))
 
-abbrev pub Becomes : Batch → Outcome → Type 0
-Becomes b (NoStyle e) = (allowed b.setup.style.value.indentation ≡ false) × Refuses 10 0 e
-Becomes b (Ran r) = IsRunOf b b.setup.sink.value r
+abbrev pub Becomes : Batch → Result Record Refusal → Type 0
+Becomes b (Err e) = (allowed b.setup.style.value.indentation ≡ false) × Refuses 10 0 e
+Becomes b (Ok r) = IsRunOf b b.setup.sink.value r

@@ -1,6 +1,6 @@
 // The record that is shown without a script: one map sheet, call by call.
 use crate::printing::print_xml;
-use crate::running::{Outcome, run};
+use crate::running::run;
 use crate::stop::Stop;
 use feed::{Batch, Traced};
 use script::{Fault, Numbered, ScriptError, read_line};
@@ -75,7 +75,7 @@ pub fn show<O: Write>(heap: Global, out: &mut O) -> Result<(), Stop> {
     let at_start = |fault| ScriptError { line: 1, fault };
     let batch = read_steps(heap).map_err(at_start)?;
     let outcome = run(heap, &batch)?;
-    if let Outcome::Ran(ran) = &outcome {
+    if let Ok(ran) = &outcome {
         let bytes = ran.bytes.len();
         let room = ran.room;
         writeln!(out, "A record of a map sheet, in the style `{STYLE}`:")?;

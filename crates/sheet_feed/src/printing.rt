@@ -24,16 +24,16 @@ fn print_refused<E: Write>(err: &mut E, calls: &[CallLine], answers: &[Answer]) 
 /// Each refusal with the line that it answers: a style's with that of the style.
 pub fn print_refusals<E: Write>(err: &mut E, batch: &Batch, outcome: &Outcome) -> io::Result<()> {
     match outcome {
-        Outcome::NoStyle(refusal) => print_refusal(err, batch.setup.style.line, *refusal),
-        Outcome::Ran(ran) => print_refused(err, &batch.calls, &ran.answers),
+        Err(refusal) => print_refusal(err, batch.setup.style.line, *refusal),
+        Ok(ran) => print_refused(err, &batch.calls, &ran.answers),
     }
 }
 
 /// The XML that the sink holds, and not a byte more.
 pub fn print_xml<O: Write>(out: &mut O, outcome: &Outcome) -> io::Result<()> {
     match outcome {
-        Outcome::NoStyle(_) => Ok(()),
-        Outcome::Ran(ran) => out.write_all(&ran.bytes),
+        Err(_) => Ok(()),
+        Ok(ran) => out.write_all(&ran.bytes),
     }
 }
 
@@ -54,10 +54,10 @@ fn print_ran<O: Write>(heap: Global, out: &mut O, ran: &Ran) -> io::Result<()> {
 /// The trace of a writer.
 pub fn print_trace<O: Write>(heap: Global, out: &mut O, outcome: &Outcome) -> io::Result<()> {
     match outcome {
-        Outcome::NoStyle(refusal) => {
+        Err(refusal) => {
             let answer = Traced(Err(*refusal));
             writeln!(out, "{answer}")
         }
-        Outcome::Ran(ran) => print_ran(heap, out, ran),
+        Ok(ran) => print_ran(heap, out, ran),
     }
 }

@@ -28,13 +28,8 @@ pub struct Ran {
     pub room: usize,
 }
 
-/// What became of a writer.
-#[derive(Drop)]
-pub enum Outcome {
-    /// Its style was refused, and its calls were passed over.
-    NoStyle(Refusal),
-    Ran(Ran),
-}
+/// What became of a writer; where its style was refused, its calls were passed over.
+pub type Outcome = Result<Ran, Refusal>;
 
 // A new writer over memory of these sizes makes the calls.
 fn run_on<S: Sink>(
@@ -117,6 +112,7 @@ fn bytes_of(heap: Global, sink: &PageSink) -> Result<Vec<u8>, AllocError>
 {
     let (len, _) = sink.counts();
     let mut bytes = vec![in heap; 0; len]?;
+    // Byte by byte, since a paged sink has no slice of them all.
     for at in 0..len {
         if let Some(byte) = sink.get(at) {
             bytes[at] = byte;
@@ -150,10 +146,10 @@ pub fn run(heap: Global, batch: &Batch) -> Result<Outcome, ScriptError>
     let layout = batch.setup.style.value;
     let style = match Style::new(layout.empty_elements, layout.indentation) {
         Ok(style) => style,
-        Err(refusal) => return Ok(Outcome::NoStyle(refusal)),
+        Err(refusal) => return Ok(Err(refusal)),
     };
     match batch.setup.sink.value {
-        SinkChoice::Buffer(size) => Ok(Outcome::Ran(in_buffer(heap, style, batch, size)?)),
-        SinkChoice::Pages => Ok(Outcome::Ran(in_pages(heap, style, batch)?)),
+        SinkChoice::Buffer(size) => in_buffer(heap, style, batch, size).map(Ok),
+        SinkChoice::Pages => in_pages(heap, style, batch).map(Ok),
     }
 }
