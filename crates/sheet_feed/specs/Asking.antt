@@ -1,6 +1,6 @@
 -- What the arguments ask for. Assumes nothing.
 use Rattle.std.specs.Prelude.{◌≡◌, ◌≢◌, ℕ, List, [], ◌∷◌, Some, None, Option, codes}
-use Rattle.sheet_feed.specs.declared.arguments.Output.TheVariants.{Plain, Trace}
+use Rattle.runner.specs.declared.feeding.Output.TheVariants.{Plain, Trace}
 use Rattle.sheet_feed.specs.declared.arguments.Task.{Task}
 use Rattle.sheet_feed.specs.declared.arguments.Task.TheVariants.{Usage, Given, Traced, File}
 

@@ -2,14 +2,7 @@
 ghost use Rattle.std.specs.Prelude.{Some, [], ◌∷◌, map, string_bytes};
 ghost use Rattle.sheet_feed.specs.Asking.{Asks};
 
-/// What is written of each writer.
-#[derive(Clone, Copy, PartialEq, Eq, Debug)]
-pub enum Output {
-    /// the XML that its sink holds
-    Plain,
-    /// its answers, and what its sink holds
-    Trace,
-}
+use runner::Output;
 
 #[derive(Clone, Copy, Debug)]
 pub enum Task<'a> {

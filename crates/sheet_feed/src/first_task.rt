@@ -1,8 +1,6 @@
 // The record that is shown without a script: one map sheet, call by call.
-use crate::printing::print_xml;
-use crate::running::run;
-use crate::stop::Stop;
-use feed::{Batch, Traced};
+use feed::Batch;
+use runner::{Stop, print_xml, run};
 use script::{Fault, Numbered, ScriptError, read_line};
 use std::alloc::Global;
 use std::io::{self, Write};

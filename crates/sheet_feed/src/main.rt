@@ -2,18 +2,13 @@
 #![tactic(auto)]
 
 mod arguments;
-mod feeding;
 mod first_task;
-mod printing;
-mod running;
-mod stop;
 
-use arguments::{Output, Task, task_of};
-use feeding::Feeding;
+use arguments::{Task, task_of};
+use runner::{Feeding, Output, Stop};
 use std::io::{BufWriter, Read, Write};
 use std::process::ExitCode;
 use std::{env, fs, io};
-use stop::Stop;
 
 const USAGE: &str = "\
 usage: sheet_feed [trace] [FILE]

@@ -8,7 +8,7 @@ ghost use Rattle.model.specs.Calls as meant;
 ghost use Rattle.writer.specs.Spelled.{CallsAre};
 ghost use Rattle.writer.specs.Served.{all_answered};
 ghost use Rattle.feed.specs.Making.{calls_made};
-ghost use Rattle.sheet_feed.specs.Running.{Made, IsRunOf, Becomes};
+ghost use Rattle.runner.specs.Running.{Made, IsRunOf, Becomes};
 
 use feed::{Batch, calls_of};
 use model::Frame;

@@ -1,6 +1,6 @@
 use Rattle.std.proofs.Common.{◌≡◌, ℕ, ◌<◌, length, slice_index}
 use Rattle.sink.specs.Pages.{flat}
-use Rattle.sheet_feed.proofs.running.bytes_of.Given as goal
+use Rattle.runner.proofs.running.bytes_of.Given as goal
 
 -- the bytes so far are those of the sink
 abbrev pub invariant-loop-at : goal.invariant-loop-at

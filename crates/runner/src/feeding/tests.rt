@@ -1,6 +1,6 @@
 // Scripts at the edges, with what goes to standard output and to standard error.
 use super::Feeding;
-use crate::arguments::Output::{self, Plain, Trace};
+use super::Output::{self, Plain, Trace};
 use crate::stop::Stop;
 use std::test::Fail;
 

@@ -5,8 +5,8 @@ use Rattle.engine.specs.Memory.{mem}
 use Rattle.writer.specs.Starting.{starting}
 use Rattle.writer.specs.Served.{all_answered}
 use Rattle.writer.specs.Replayed.{Replayed}
-use Rattle.sheet_feed.specs.Running.{new_writer}
-use Rattle.sheet_feed.proofs.running.run_on.Goals as goal
+use Rattle.runner.specs.Running.{new_writer}
+use Rattle.runner.proofs.running.run_on.Goals as goal
 
 pub returns-in-Ok : goal.returns-in-Ok
 returns-in-Ok g c =

@@ -17,7 +17,7 @@ use Rattle.writer.specs.Served.{all_answered}
 use Rattle.writer.specs.Replayed.{Replayed}
 use Rattle.feed.specs.declared.batch.Batch.{Batch}
 use Rattle.feed.specs.Making.{calls_made}
-use Rattle.sheet_feed.specs.declared.running.Ran.{Ran as Record}
+use Rattle.runner.specs.declared.running.Ran.{Ran as Record}
 
 -- a new writer over memory of these sizes
 abbrev pub new_writer : EmptyElementHandling → Option Indentation → Sizes → Mem

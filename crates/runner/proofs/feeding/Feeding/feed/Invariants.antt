@@ -1,6 +1,6 @@
 use Rattle.std.proofs.Common.{◌-◌, ◌^◌}
 use Rattle.script.specs.Script.{Countable}
-use Rattle.sheet_feed.proofs.feeding.Feeding.feed.Given as goal
+use Rattle.runner.proofs.feeding.Feeding.feed.Given as goal
 
 -- the lines read, and those that are left, can be counted
 abbrev pub invariant-loop-numbered : goal.invariant-loop-numbered

@@ -1,5 +1,4 @@
 // Takes a script line by line, runs each writer where the next begins or the script ends, and prints what became of it.
-use crate::arguments::Output;
 use crate::printing::{print_refusals, print_trace, print_xml};
 use crate::running::run;
 use crate::stop::Stop;
@@ -7,6 +6,15 @@ use feed::Batch;
 use script::{Fault, Numbered, Script, ScriptError};
 use std::alloc::Global;
 use std::io::{self, Write};
+
+/// What is written of each writer.
+#[derive(Clone, Copy, PartialEq, Eq, Debug)]
+pub enum Output {
+    /// the XML that its sink holds
+    Plain,
+    /// its answers, and what its sink holds
+    Trace,
+}
 
 /// Where the output goes, and which it is.
 #[derive(Drop)]

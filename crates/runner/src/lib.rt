@@ -1,0 +1,12 @@
+// Runs sheet scripts: makes the calls of each writer, and writes what its sink then holds, or its trace.
+#![tactic(auto)]
+
+mod feeding;
+mod printing;
+mod running;
+mod stop;
+
+pub use feeding::{Feeding, Output};
+pub use printing::print_xml;
+pub use running::{Outcome, Ran, run};
+pub use stop::Stop;
