@@ -15,7 +15,7 @@ pub fn check_bytes(bytes: &[u8]) -> Result<&str, Refusal>
     well_formed(bytes)
 }
 
-/// The name that this text is, if it is one.
+/// The name that this text is, if it is one; in the model's words, as above.
 pub fn check_name(text: &str) -> Result<XmlName<'_>, Refusal>
     ensures same { IfOk result (λ name. name.name.now ≡ text.now) }
     ensures checked { CheckedName result text.now }

@@ -27,21 +27,23 @@ fn settled(frame: Frame, res: WriteResult) -> Frame
     }
 }
 
-// In the frame at `at`, a value with this result is complete. Answers the frame as it was.
-pub(crate) fn settle_frame(frames: &mut [Frame], at: usize, res: WriteResult) -> Frame
+/// In the frame at `at`, a value with this result is complete. Answers the frame as it was.
+pub fn settle_frame(frames: &mut [Frame], at: usize, res: WriteResult) -> Frame
     requires { at < length frames.old }
     ensures value { result ≡ slice_index_or frames.old at no_frame }
     ensures frames { frames.new ≡ slice_set frames.old at (settled_frame res (slice_index_or frames.old at no_frame)) }
+    ensures len { length frames.new ≡ length frames.old }
 {
     let top = frames[at];
     frames[at] = settled(top, res);
     top
 }
 
-// The open tag of the record at `at` now ends at `tag`.
-pub(crate) fn lengthen_tag(frames: &mut [Frame], at: usize, tag: usize)
+/// The open tag of the record at `at` now ends at `tag`.
+pub fn lengthen_tag(frames: &mut [Frame], at: usize, tag: usize)
     requires { at < length frames.old }
     ensures frames { frames.new ≡ slice_set frames.old at (longer_tag tag (slice_index_or frames.old at no_frame)) }
+    ensures len { length frames.new ≡ length frames.old }
 {
     frames[at].tag = tag;
 }

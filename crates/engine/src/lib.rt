@@ -8,5 +8,6 @@ mod opening;
 mod state;
 
 pub use checks::{check_bytes, check_name, is_text_name, is_value_name};
+pub use frames::{lengthen_tag, settle_frame};
 pub use kernel::{Lead, put};
 pub use state::Core;

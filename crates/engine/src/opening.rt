@@ -37,13 +37,13 @@ impl Core<'_> {
     }
 
     /// Puts a name on the name stack, and answers where it begins there.
-    pub fn push_name(&mut self, name: XmlName<'_>) -> usize
-        requires { self.old.names.used + length name.name.now ≤ length self.old.names.all.now }
+    pub fn push_name(&mut self, name: &[u8]) -> usize
+        requires { self.old.names.used + length name.now ≤ length self.old.names.all.now }
         ensures start { result ≡ self.old.names.used }
-        ensures memory { mem self.new ≡ name_put name.entry.name.now (mem self.old) }
+        ensures memory { mem self.new ≡ name_put name.now (mem self.old) }
     {
         let from = self.names.used;
-        self.names.append(&name.as_str().as_bytes());
+        self.names.append(&name);
         from
     }
 
@@ -53,7 +53,7 @@ impl Core<'_> {
         ensures awaits { Awaits result text.now (mem self.old) (mem self.new) }
     {
         let name = self.fitting_name(text)?;
-        let from = self.push_name(name);
+        let from = self.push_name(name.as_str().as_bytes());
         self.place = Place::Element(from);
         Ok(())
     }
@@ -80,7 +80,7 @@ impl Core<'_> {
         let name = self.fitting_name(text)?;
         self.frame_free()?;
         put(&mut self.stage, &(lead, text.as_bytes()))?;
-        let from = self.push_name(name);
+        let from = self.push_name(name.as_str().as_bytes());
         self.begin_record(from);
         Ok(())
     }

@@ -2,18 +2,14 @@
 use Rattle.std.specs.Prelude.{◌≡◌, ◌∷◌, List, [], Some, None, Option, vec_items}
 use Rattle.xml.specs.declared.escape.QuoteLevel.{QuoteLevel}
 use Rattle.xml.specs.Escaping.{level_chooses}
-use Rattle.xml.specs.Levels.{level_within, level_enough}
 use Rattle.script.specs.declared.line.Line.{Line}
 use Rattle.script.specs.declared.line.Line.TheVariants.{Blank, New, Style, Memory, Sink, Level, Open, Field, Text, Nothing, Variant, Wrapped, Row, VariantRow, Record, VariantRecord, End, Finish, Abandon}
 use Rattle.model.specs.Calls as model
-use Rattle.model.specs.Calls.{Rule, call_open, call_field, call_value, call_end, call_finish, call_abandon, val_text, val_none, val_variant, val_wrapped, val_row, val_variant_row, val_record, val_variant_record}
+use Rattle.model.specs.Rules.{level_rule}
+use Rattle.model.specs.Calls.{call_open, call_field, call_value, call_end, call_finish, call_abandon, val_text, val_none, val_variant, val_wrapped, val_row, val_variant_row, val_record, val_variant_record}
 use Rattle.writer.specs.declared.call.Call.{Call}
 use Rattle.writer.specs.Spelled.{CallIs}
 use Rattle.feed.specs.declared.call_line.CallLine.{CallLine}
-
--- the rule that a level is
-abbrev pub rule_of : QuoteLevel → Rule
-rule_of level = record { chooses = level_chooses level; within = level_within level; enough = level_enough level }
 
 -- the call that a line makes under a level, if it makes one
 abbrev pub call_of : QuoteLevel → Line → Option model.Call
@@ -25,9 +21,9 @@ call_of level (Sink choice) = None
 call_of level (Level other) = None
 call_of level (Open name) = Some (call_open (vec_items name))
 call_of level (Field key) = Some (call_field (vec_items key))
-call_of level (Text string) = Some (call_value (val_text (rule_of level) (vec_items string)))
+call_of level (Text string) = Some (call_value (val_text (level_rule level) (vec_items string)))
 call_of level Nothing = Some (call_value val_none)
-call_of level (Variant name) = Some (call_value (val_variant (rule_of level) (vec_items name)))
+call_of level (Variant name) = Some (call_value (val_variant (level_rule level) (vec_items name)))
 call_of level (Wrapped name) = Some (call_value (val_wrapped (vec_items name)))
 call_of level Row = Some (call_value val_row)
 call_of level (VariantRow name) = Some (call_value (val_variant_row (vec_items name)))

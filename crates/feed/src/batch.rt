@@ -11,7 +11,7 @@ use std::alloc::{AllocError, Global};
 use std::mem;
 
 /// The settings of one writer, and its calls with their lines.
-#[derive(Drop)]
+#[derive(PartialEq, Eq, Debug, Drop)]
 pub struct Batch {
     pub setup: Setup,
     pub calls: Vec<CallLine>,
@@ -27,26 +27,22 @@ fn says_something(line: &Line) -> bool
 }
 
 impl Batch {
-    /// The batch of the writer that is there at the start.
-    pub fn at_start(heap: Global) -> Batch
-        ensures begins { Begins result 1 false }
-    {
-        Batch {
-            setup: Setup::new(1),
-            calls: Vec::new(heap),
-            reported: false,
-        }
-    }
-
-    // The batch of a writer that `new` makes at this line.
-    fn at_new(heap: Global, line: usize) -> Batch
-        ensures begins { Begins result line true }
+    // The batch of a writer that begins at this line.
+    fn beginning(heap: Global, line: usize, reported: bool) -> Batch
+        ensures begins { Begins result line reported }
     {
         Batch {
             setup: Setup::new(line),
             calls: Vec::new(heap),
-            reported: true,
+            reported,
         }
+    }
+
+    /// The batch of the writer that is there at the start.
+    pub fn at_start(heap: Global) -> Batch
+        ensures begins { Begins result 1 false }
+    {
+        Batch::beginning(heap, 1, false)
     }
 
     // Takes a line that makes a call.
@@ -69,7 +65,7 @@ impl Batch {
         ensures sets { Sets self.old numbered.now.number numbered.now.line self.new }
     {
         self.setup = self.setup.after(numbered);
-        self.reported = self.reported | says_something(&numbered.line);
+        self.reported |= says_something(&numbered.line);
     }
 
     /// Takes a line. Where it is `new`, the batch of the writer before it is handed out, and this is the new writer's.
@@ -79,7 +75,7 @@ impl Batch {
     {
         match numbered.line.role() {
             Role::Starts => {
-                let next = Batch::at_new(heap, numbered.number);
+                let next = Batch::beginning(heap, numbered.number, true);
                 Ok(Some(mem::replace(self, next)))
             }
             Role::Calls => {

@@ -8,7 +8,7 @@ use writer::{Call, Value};
 use xml::QuoteLevel;
 
 /// A line that makes a call, with its number and the escaping rule that held there.
-#[derive(Drop)]
+#[derive(PartialEq, Eq, Debug, Drop)]
 pub struct CallLine {
     pub number: usize,
     pub line: Line,
@@ -38,6 +38,7 @@ impl CallLine {
             Line::End => Call::End,
             Line::Finish => Call::Finish,
             Line::Abandon => Call::Abandon,
+            // No call is made by these, and none of them is here.
             Line::Blank
             | Line::New
             | Line::Style(_)

@@ -31,6 +31,7 @@ fn append_item<R: EscapeRule>(
     Ok(())
 }
 
+// Beside `string_at_attribute_item` of attributes: one grows the children, the other the open tag before them.
 /// A text or a variant as an item of a list that is a text; an empty one writes nothing.
 pub fn string_as_item<R: EscapeRule>(
     core: &mut Core<'_>,

@@ -6,8 +6,8 @@ ghost use Rattle.memory.specs.Opened.{opened};
 use crate::piece::Piece;
 use crate::shift;
 
-/// A lent slice; what is in use stands at its front. That this is no more than there is, is no invariant: a caller may go back
-/// to a length that it put down elsewhere, and would have to take a minimum here that never differs.
+/// A lent slice; what is in use stands at its front. That this is no more than there is, is no invariant: a step of the writer
+/// goes back to a length that a frame keeps, and does not know by itself that it lies within.
 #[derive(Drop)]
 pub struct Lent<'a, T> {
     pub all: &'a mut [T],
@@ -56,6 +56,15 @@ impl<T: Copy> Lent<'_, T> {
         self.all[k]
     }
 
+    pub fn set(&mut self, at: usize, item: T)
+        requires { at < length self.old.all.now }
+        ensures all { self.new.all.now ≡ slice_set self.old.all.now at item }
+        ensures used { self.new.used ≡ self.old.used }
+        ensures len { length self.new.all.now ≡ length self.old.all.now }
+    {
+        self.all[at] = item;
+    }
+
     /// Puts one more behind what is in use.
     pub fn push(&mut self, item: T)
         requires { self.old.used < length self.old.all.now }
@@ -63,7 +72,7 @@ impl<T: Copy> Lent<'_, T> {
         ensures used { self.new.used ≡ self.old.used + 1 }
         ensures len { length self.new.all.now ≡ length self.old.all.now }
     {
-        self.all[self.used] = item;
+        self.set(self.used, item);
         self.used += 1;
     }
 

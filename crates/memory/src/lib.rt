@@ -18,6 +18,7 @@ pub fn lay(out: &mut [u8], at: usize, src: &[u8]) -> usize
     ensures end { result ≡ at + length src.now }
     ensures bytes { out.new ≡ laid out.old at src.now }
     ensures front { take result out.new ≡ take at out.old ++ src.now }
+    ensures len { length out.new ≡ length out.old }
 {
     let end = at + src.len();
     out[at..end].copy_from_slice(src);
@@ -29,6 +30,7 @@ pub fn fill(out: &mut [u8], at: usize, count: usize, byte: u8) -> usize
     requires { at + count ≤ length out.old }
     ensures end { result ≡ at + count }
     ensures bytes { out.new ≡ laid out.old at (replicate count byte) }
+    ensures len { length out.new ≡ length out.old }
 {
     let end = at + count;
     out[at..end].fill(byte);
@@ -41,6 +43,7 @@ pub fn shift(out: &mut [u8], from: usize, end: usize, by: usize) -> usize
     requires within { end + by ≤ length out.old }
     ensures end { result ≡ end + by }
     ensures bytes { out.new ≡ shifted out.old from end by }
+    ensures len { length out.new ≡ length out.old }
 {
     out.copy_within(from..end, from + by);
     end + by

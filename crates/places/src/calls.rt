@@ -7,8 +7,8 @@
 // - attribute place: the same, as the value of an attribute in the open tag
 // - item place: a text or a variant is one item of a list
 //
-// What a place holds is handed on by the match, where the row reads it. That the memory holds some model (`Sound`) is asked of the caller here, and is
-// always true of a `Writer`, which lends its core to these calls.
+// What a place holds is handed on by the match, where the row reads it. That the memory holds some model (`Sound`) is asked of
+// the caller here, and is always true of a `Writer`, which lends its core to these calls.
 ghost use Rattle.std.specs.Prelude.{◌≡◌, ℕ};
 ghost use Rattle.model.specs.Calls as meant;
 ghost use Rattle.model.specs.Calls.{call_open, call_field, call_value, call_end};

@@ -3,7 +3,7 @@ ghost use Rattle.std.specs.Prelude.{◌≡◌};
 ghost use Rattle.places.specs.Values.{string};
 
 /// The value of a field, or an item of a row or a list. A text, and a variant's name where it may be written as one, brings
-/// its own escaping rule.
+/// its own escaping rule; it is no `Unescaped`, since that borrows the rule.
 #[derive(Clone, Copy, PartialEq, Eq, Debug, Drop)]
 pub enum Value<'a, R> {
     Text(&'a [u8], R),

@@ -48,7 +48,7 @@ fn open_named(core: &mut Core<'_>, text: &str) -> Result<(), Refusal>
     let name = core.fitting_name(text)?;
     core.frame_free()?;
     let flag = core.top().flag;
-    let from = core.push_name(name);
+    let from = core.push_name(name.as_str().as_bytes());
     core.push(Frame::named_row(flag, core.names.used, from));
     core.place = Place::Element(from);
     Ok(())

@@ -9,6 +9,7 @@ ghost use Rattle.records.specs.Names.{RecordValue};
 use engine::{Core, check_bytes, is_text_name, put};
 use refusal::Refusal;
 
+// Beside `Core::open_record`: here the name stands on the name stack already.
 /// A record at an element place: its tag has the name there.
 pub fn record_at_element(core: &mut Core<'_>, from: usize, name: &[u8]) -> Result<(), Refusal>
     requires safe { Safe (mem core.old) }

@@ -3,7 +3,7 @@ use crate::printing::{print_refusals, print_trace, print_xml};
 use crate::running::run;
 use crate::stop::Stop;
 use feed::Batch;
-use script::{Fault, Numbered, Script, ScriptError};
+use script::{Fault, Numbered, Script};
 use std::alloc::Global;
 use std::io::{self, Write};
 
@@ -69,10 +69,7 @@ impl<O: Write + Drop, E: Write + Drop> Feeding<O, E> {
     // One line.
     fn take(&mut self, batch: &mut Batch, numbered: Numbered) -> Result<(), Stop> {
         let line = numbered.number;
-        let wants = |_| ScriptError {
-            line,
-            fault: Fault::Memory,
-        };
+        let wants = |_| Fault::Memory.at_line(line);
         if let Some(done) = batch.take(self.heap, numbered).map_err(wants)? {
             self.end(&done)?;
         }

@@ -21,7 +21,7 @@ use writer::{Answer, Call, Writer};
 use xml::QuoteLevel;
 
 /// The answers to a writer's calls, and what its sink holds and has room for in the end.
-#[derive(Drop)]
+#[derive(PartialEq, Eq, Debug, Drop)]
 pub struct Ran {
     pub answers: Vec<Answer>,
     pub bytes: Vec<u8>,
@@ -58,17 +58,6 @@ fn run_on<S: Sink>(
     }
 }
 
-// Want of memory is told at the line of the setting that asks for it.
-fn wanting(line: usize) -> ScriptError
-    ensures line { result.line ≡ line }
-    ensures fault { result.fault ≡ Memory }
-{
-    ScriptError {
-        line,
-        fault: Fault::Memory,
-    }
-}
-
 // The batch on a sink: what its calls are answered.
 fn answers_on<S: Sink>(
     heap: Global,
@@ -80,25 +69,22 @@ fn answers_on<S: Sink>(
     ensures err { IfErr result (λ e. e.fault ≡ Memory) }
 {
     let memory = batch.setup.memory;
-    let at_line = |fault| ScriptError {
-        line: memory.line,
-        fault,
-    };
-    let calls = calls_of(heap, &batch.calls).map_err(|_| wanting(memory.line))?;
-    run_on(heap, style, memory.value, sink, &calls).map_err(at_line)
+    let calls = calls_of(heap, &batch.calls).map_err(|_| Fault::Memory.at_line(memory.line))?;
+    run_on(heap, style, memory.value, sink, &calls).map_err(|fault| fault.at_line(memory.line))
 }
 
+// Beside `in_pages`, since the two sinks hand out their bytes in different ways. The style is that of the batch.
 fn in_buffer(heap: Global, style: Style, batch: &Batch, size: usize) -> Result<Ran, ScriptError>
     requires style { (style.empty_elements ≡ batch.now.setup.style.value.empty_elements) × (style.indentation ≡ batch.now.setup.style.value.indentation) }
     ensures run { IfOk result (IsRunOf batch.now (Buffer size)) }
     ensures err { IfErr result (λ e. e.fault ≡ Memory) }
 {
     let line = batch.setup.sink.line;
-    let mut memory = vec![in heap; 0; size].map_err(|_| wanting(line))?;
+    let mut memory = vec![in heap; 0; size].map_err(|_| Fault::Memory.at_line(line))?;
     let mut sink = BufferSink::new(&mut memory);
     let answers = answers_on(heap, style, batch, &mut sink)?;
     let (_, room) = sink.counts();
-    let bytes = sink.held().to_vec(heap).map_err(|_| wanting(line))?;
+    let bytes = sink.held().to_vec(heap).map_err(|_| Fault::Memory.at_line(line))?;
     Ok(Ran {
         answers,
         bytes,
@@ -130,7 +116,7 @@ fn in_pages(heap: Global, style: Style, batch: &Batch) -> Result<Ran, ScriptErro
     let mut sink = PageSink::new();
     let answers = answers_on(heap, style, batch, &mut sink)?;
     let (_, room) = sink.counts();
-    let bytes = bytes_of(heap, &sink).map_err(|_| wanting(line))?;
+    let bytes = bytes_of(heap, &sink).map_err(|_| Fault::Memory.at_line(line))?;
     Ok(Ran {
         answers,
         bytes,

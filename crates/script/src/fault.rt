@@ -40,6 +40,14 @@ impl Fault {
             Fault::Memory => "not enough memory",
         }
     }
+
+    /// The same in a line of a script.
+    pub fn at_line(self, line: usize) -> ScriptError
+        ensures line { result.line ≡ line }
+        ensures fault { result.fault ≡ self }
+    {
+        ScriptError { line, fault: self }
+    }
 }
 
 impl From<AllocError> for Fault {

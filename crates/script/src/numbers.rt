@@ -11,7 +11,7 @@ pub fn number(text: &[u8], most: usize) -> Result<usize, Fault>
     if text.is_empty() {
         return Err(Fault::BadNumber);
     }
-    // Digit by digit, since `parse` would take a sign too.
+    // Digit by digit, since `parse` would take a sign too; and a loop, which `?` leaves at the first digit at fault.
     let mut value: u128 = 0;
     for c in text {
         let digit = char::from(*c).to_digit(10).ok_or(Fault::BadNumber)?;

@@ -76,10 +76,7 @@ impl<'s> Script<'s> {
         self.rest = rest;
         self.read += 1;
         let number = self.read;
-        let at_line = |fault| ScriptError {
-            line: number,
-            fault,
-        };
+        let at_line = |fault: Fault| fault.at_line(number);
         let (line, phase) = read_in_phase(heap, self.phase, text).map_err(at_line)?;
         self.phase = phase;
         Ok(Some(Numbered { number, line }))

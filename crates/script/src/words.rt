@@ -86,7 +86,7 @@ impl Word {
     }
 
     /// The word that is written like this.
-    // No table of pairs as for the settings, since the match of `spelling` leaves no word out.
+    // No table of pairs as for the settings: a word's spelling is a match, and `Names` says that `WORDS` leaves none out.
     pub fn find(text: &[u8]) -> Option<Word>
         ensures names { Names result text.now }
     {

@@ -4,7 +4,7 @@ ghost use Rattle.sheet_feed.specs.Asking.{Asks};
 
 use runner::Output;
 
-#[derive(Clone, Copy, Debug)]
+#[derive(Clone, Copy, PartialEq, Eq, Debug)]
 pub enum Task<'a> {
     Usage,
     /// the script on standard input, or the first task where that is empty

@@ -1,7 +1,7 @@
 // The record that is shown without a script: one map sheet, call by call.
 use feed::Batch;
 use runner::{Stop, print_xml, run};
-use script::{Fault, Numbered, ScriptError, read_line};
+use script::{Fault, Numbered, read_line};
 use std::alloc::Global;
 use std::io::{self, Write};
 use writer::Answer;
@@ -70,8 +70,7 @@ fn print_steps<O: Write>(out: &mut O, answers: &[Answer]) -> io::Result<()> {
 
 /// Makes the calls, and prints each with its answer, what the sink answers, and the XML that it holds.
 pub fn show<O: Write>(heap: Global, out: &mut O) -> Result<(), Stop> {
-    let at_start = |fault| ScriptError { line: 1, fault };
-    let batch = read_steps(heap).map_err(at_start)?;
+    let batch = read_steps(heap).map_err(|fault| fault.at_line(1))?;
     let outcome = run(heap, &batch)?;
     if let Ok(ran) = &outcome {
         let bytes = ran.bytes.len();

@@ -6,6 +6,7 @@ use crate::sink::Sink;
 use memory::Lent;
 use refusal::Refusal;
 
+// No equality, as for the paged sink.
 /// Its size is the buffer's. What lies behind the bytes held keeps what it held.
 #[derive(Drop)]
 pub struct BufferSink<'a> {
@@ -47,7 +48,7 @@ impl Sink for BufferSink<'_> {
         ensures puts { Puts result bytes.now (take self.old.buffer.used self.old.buffer.all.now) (length self.old.buffer.all.now - self.old.buffer.used) (take self.new.buffer.used self.new.buffer.all.now) (length self.new.buffer.all.now - self.new.buffer.used) }
         ensures memory { Keeps result bytes.now self.old.buffer.all.now self.old.buffer.used self.new.buffer.all.now }
     {
-        if self.buffer.room() < bytes.len() {
+        if !self.buffer.fits(&bytes) {
             return Err(Refusal::Sink);
         }
         self.buffer.append(&bytes);

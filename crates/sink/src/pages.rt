@@ -5,7 +5,7 @@ ghost use Rattle.sink.specs.Pages.{flat};
 
 use crate::page::Page;
 
-/// Its length is said by each call: a store into a page of a struct with an invariant gets no proof.
+/// Its length is said by each call: with an invariant of `Pages`, which was tried, a store into one of the pages gets no proof.
 #[derive(Clone, Copy, PartialEq, Eq, Debug)]
 pub struct Pages {
     pages: [Page; 16],

@@ -60,7 +60,7 @@ fn serve<R: EscapeRule, S: Sink>(
 }
 
 // Runs the calls one after another. The answers are made before the first call, so that no run stops for want of memory, and
-// each is stored by its index: of a slice that an iterator has lent for writing a proof knows the length alone.
+// each is stored by its index: of what `zip` makes of a slice lent for writing a proof knows the length alone.
 fn serve_all<R: EscapeRule, S: Sink>(
     writer: &mut Writer<'_>,
     sink: &mut S,

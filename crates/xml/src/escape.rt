@@ -100,7 +100,7 @@ fn replacement_of(byte: u8) -> &'static [u8]
     }
 }
 
-/// A string, and the rule that it is escaped by wherever it is written.
+/// A string, and the rule that it is escaped by wherever it is written. No `Debug`, since a rule need not have it.
 #[derive_where(Clone, Copy)]
 pub struct Unescaped<'a, R> {
     pub value: &'a [u8],
@@ -131,7 +131,8 @@ pub struct Escaped<'a, R> {
 }
 
 impl<R: EscapeRule> Escaped<'_, R> {
-    // A byte of it: what replaces it, or else the byte itself.
+    // A byte of it: what replaces it, or else the byte itself. Two options of which one is none, since a pair of pieces is a
+    // piece already.
     fn piece(&self, byte: u8) -> (Option<&'static [u8]>, Option<[u8; 1]>)
         ensures { ⟦<(Option<&'static [u8]>, Option<[u8; 1]>) as Piece>⟧.bytes result ≡ piece (R.chooses self.now.rule.now self.now.target) byte }
     {
@@ -163,6 +164,7 @@ impl<R: EscapeRule> Piece for Escaped<'_, R> {
     }
 }
 
+// Value, rule and use come one by one in these two, as a caller names them; below here they are one `Escaped`.
 /// How many bytes `escape_into` writes for a value; the largest `usize` where it would be more than that.
 pub fn escaped_len<R: EscapeRule>(value: &[u8], rule: &R, target: Use) -> usize
     ensures value { result ≡ min (length (escaped (R.chooses rule.now target) value.now)) (2 ^ 64 - 1) }
@@ -187,7 +189,6 @@ pub fn escape_into<R: EscapeRule>(
 ) -> Result<usize, Refusal>
     ensures escapes { Escapes target (R.chooses rule.now target) value.now at result out.old out.new }
 {
-    // Value, rule and use come one by one, as a caller names them; below here they are one `Escaped`.
     let escaped = Escaped {
         value,
         rule,

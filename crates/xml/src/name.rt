@@ -44,7 +44,7 @@ fn is_name_char(c: char) -> bool
 }
 
 // The offset of the first character that stands in no name, if there is one.
-// A loop that breaks with it, as the project asks of the name check.
+// A loop that breaks with it: the name check is to walk a name once and by hand (docs/DECISIONS.md).
 fn first_stray(name: &str) -> Option<usize>
     ensures { result ≡ stray_from (chars name.now) 0 }
 {

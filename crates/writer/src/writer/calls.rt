@@ -141,7 +141,7 @@ impl Writer<'_> {
         self.plain(Value::VariantRecord(name))
     }
 
-    // By `&mut`, since a writer that is passed by value gets no proof.
+    // By `&mut`: by value was tried, and a writer that is passed so gets no proof.
     /// Ends the work with the writer: gives up the record that may be open, with its ticket, and leaves the writer idle.
     pub fn close(&mut self, held: Option<Ticket>)
         ensures does { (room : ℕ) → (r : Result (Unit {0}) Refusal) × Does call_abandon room r (mem self.old.core) (mem self.new.core) }

@@ -1,20 +1,20 @@
 use Rattle.std.proofs.Common.{rules, refl}
 use Rattle.model.specs.Calls.{call_value, val_text, val_none, val_variant, val_wrapped, val_row, val_variant_row, val_record, val_variant_record}
-use Rattle.feed.specs.Making.{rule_of}
+use Rattle.model.specs.Rules.{level_rule}
 use Rattle.feed.proofs.call_line.CallLine.call.Goals as goal
 
 pub returns-in-Text : goal.returns-in-Text
 returns-in-Text c =
-    let v = val_text (rule_of c.args.self.now.level) c.deref-in-Text.result.now in
-    record { makes = (call_value v, (v, (rule_of c.args.self.now.level, refl, refl), refl), search rules) }
+    let v = val_text (level_rule c.args.self.now.level) c.deref-in-Text.result.now in
+    record { makes = (call_value v, (v, (level_rule c.args.self.now.level, refl, refl), refl), search rules) }
 
 pub returns-in-Nothing : goal.returns-in-Nothing
 returns-in-Nothing c = record { makes = (call_value val_none, (val_none, refl, refl), search rules) }
 
 pub returns-in-Variant : goal.returns-in-Variant
 returns-in-Variant c =
-    let v = val_variant (rule_of c.args.self.now.level) c.deref-in-Variant.result.now in
-    record { makes = (call_value v, (v, (rule_of c.args.self.now.level, refl, refl), refl), search rules) }
+    let v = val_variant (level_rule c.args.self.now.level) c.deref-in-Variant.result.now in
+    record { makes = (call_value v, (v, (level_rule c.args.self.now.level, refl, refl), refl), search rules) }
 
 pub returns-in-Wrapped : goal.returns-in-Wrapped
 returns-in-Wrapped c =
