@@ -13,5 +13,10 @@ use xml::QuoteLevel;
 pub fn calls_of(heap: Global, lines: &[CallLine]) -> Result<Vec<Call<'_, QuoteLevel>>, AllocError>
     ensures made { IfOk result (λ calls. CallsAre level_chooses calls.items (calls_made lines.now)) }
 {
-    lines.iter().map(|line| line.call()).collect(heap)
+    // A loop: as a `collect` it was tried, and the proof did not close.
+    let mut calls = Vec::with_capacity(heap, lines.len())?;
+    for line in lines {
+        calls.push(line.call())?;
+    }
+    Ok(calls)
 }
