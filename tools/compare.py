@@ -45,6 +45,7 @@ KNOWN = {
     "bounds of memory": "refusal 6, 7, 8 or 9: the crate has no such bounds",
     "style": "a style that is none here",
 }
+ROW_TEXTS = [kind for kind in KNOWN if kind.startswith("text in a row")]
 
 
 class Case:
@@ -59,12 +60,13 @@ class Case:
     def section(self, count=None, more=()):
         return sheets.section(self.settings, [*self.calls[:count], *more])
 
-    def before(self, count):
+    def before(self, count, plain=False):
         """The section that ends before a call, completed as the oracle does it."""
         calls = self.calls[:count]
         depth = sum(word in OPENS for word, _, _ in calls) - sum(word == "end" for word, _, _ in calls)
         waits = [("text", "", "")] if calls[-1][0] in ("field", "wrapped") else []
-        return sheets.section(self.settings, [*calls, *waits, *[("end", None, "")] * depth, *FINISH])
+        settings = [] if plain else self.settings
+        return sheets.section(settings, [*calls, *waits, *[("end", None, "")] * depth, *FINISH])
 
     def take(self, answers, held):
         self.bytes = held
@@ -152,6 +154,25 @@ def kind_of_refusal(case, crate_at):
     return f"OTHER REFUSAL {number}"
 
 
+def behind_texts(feed, rows):
+    """For each case whether a text stands last in the record that is open before its call.
+
+    It is asked of our bytes: there the record is completed, unindented, and the ends of records are taken off again.
+    """
+    made = sheets.traces(feed, [case.before(first, plain=True) for case, first in rows.items()])
+    for (case, first), (_, ours) in zip(rows.items(), made, strict=True):
+        opens = []
+        for word, _, _ in case.calls[:first]:
+            if word == "end":
+                opens.pop()
+            elif word in OPENS:
+                opens.append(word)
+        for _ in (word for word in opens if "row" not in word):
+            # A record without children has no end tag.
+            ours = b">" if ours.endswith(b"/>") else ours[: ours.rindex(b"</")]
+        yield not ours.endswith(b">")
+
+
 def kinds_of_refusals(programs, cases):
     """The kind of each case that one of the programs does not take whole."""
     feed, oracle = programs
@@ -174,6 +195,10 @@ def kinds_of_refusals(programs, cases):
         kind, _, theirs = same[case]
         if not ours or kind_of_bytes(case.settings, ours, bytes.fromhex(theirs[6:])) not in (EQUAL, *KNOWN):
             same[case] = (f"OTHER BYTES before a refusal, and {kind}", None, theirs)
+    rows = {case: first for case, (kind, first, _) in same.items() if kind in ROW_TEXTS}
+    for case, behind in zip(rows, behind_texts(feed, rows), strict=True):
+        if behind != (same[case][0] != "text in a row refused by the crate"):
+            same[case] = ("OTHER: a row's text is taken straight behind a text, or refused elsewhere", None, None)
     return {case: kind for case, (kind, _, _) in same.items()}
 
 
