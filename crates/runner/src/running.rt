@@ -84,7 +84,10 @@ fn in_buffer(heap: Global, style: Style, batch: &Batch, size: usize) -> Result<R
     let mut sink = BufferSink::new(&mut memory);
     let answers = answers_on(heap, style, batch, &mut sink)?;
     let (_, room) = sink.counts();
-    let bytes = sink.held().to_vec(heap).map_err(|_| Fault::Memory.at_line(line))?;
+    let bytes = sink
+        .held()
+        .to_vec(heap)
+        .map_err(|_| Fault::Memory.at_line(line))?;
     Ok(Ran {
         answers,
         bytes,
