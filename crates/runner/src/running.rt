@@ -75,7 +75,8 @@ fn answers_on<S: Sink>(
 
 // Beside `in_pages`, since the two sinks hand out their bytes in different ways. The style is that of the batch.
 fn in_buffer(heap: Global, style: Style, batch: &Batch, size: usize) -> Result<Ran, ScriptError>
-    requires style { (style.empty_elements ≡ batch.now.setup.style.value.empty_elements) × (style.indentation ≡ batch.now.setup.style.value.indentation) }
+    requires form { style.empty_elements ≡ batch.now.setup.style.value.empty_elements }
+    requires indentation { style.indentation ≡ batch.now.setup.style.value.indentation }
     ensures run { IfOk result (IsRunOf batch.now (Buffer size)) }
     ensures err { IfErr result (λ e. e.fault ≡ Memory) }
 {
@@ -111,7 +112,8 @@ fn bytes_of(heap: Global, sink: &PageSink) -> Result<Vec<u8>, AllocError>
 }
 
 fn in_pages(heap: Global, style: Style, batch: &Batch) -> Result<Ran, ScriptError>
-    requires style { (style.empty_elements ≡ batch.now.setup.style.value.empty_elements) × (style.indentation ≡ batch.now.setup.style.value.indentation) }
+    requires form { style.empty_elements ≡ batch.now.setup.style.value.empty_elements }
+    requires indentation { style.indentation ≡ batch.now.setup.style.value.indentation }
     ensures run { IfOk result (IsRunOf batch.now Pages) }
     ensures err { IfErr result (λ e. e.fault ≡ Memory) }
 {
