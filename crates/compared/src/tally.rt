@@ -1,4 +1,7 @@
 // How many answers are as they have to be.
+ghost use Rattle.std.specs.Prelude.{◌≡◌, ◌+◌, ◌-◌, ◌^◌, true, false, min, if◌then◌else◌};
+ghost use Rattle.std.specs.Option.{is_some};
+
 use std::fmt;
 use std::process::ExitCode;
 
@@ -10,7 +13,10 @@ pub struct Count {
 }
 
 impl Count {
-    fn add(&mut self, right: bool) {
+    fn add(&mut self, right: bool)
+        ensures all { self.new.all ≡ min (self.old.all + 1) (2 ^ 64 - 1) }
+        ensures right { self.new.right ≡ (if right then min (self.old.right + 1) (2 ^ 64 - 1) else self.old.right) }
+    {
         self.all = self.all.saturating_add(1);
         if right {
             self.right = self.right.saturating_add(1);
@@ -34,7 +40,12 @@ pub struct Tally {
 }
 
 impl Tally {
-    fn judge(&mut self, number: usize, right: bool) {
+    // A wrong answer is kept, unless one was wrong before.
+    fn judge(&mut self, number: usize, right: bool)
+        ensures right { right ≡ true → self.new ≡ self.old }
+        ensures wrong { right ≡ false → is_some self.new.wrong ≡ true }
+        ensures kept { is_some self.old.wrong ≡ true → self.new ≡ self.old }
+    {
         if !right && self.wrong.is_none() {
             self.wrong = Some(number);
         }

@@ -1,10 +1,12 @@
 -- What becomes of a batch: its style is refused, or its calls are made, all in one run, on a new writer and a new sink. Assumes nothing.
-use Rattle.std.specs.Prelude.{◌≡◌, ℕ, false, List, [], take, replicate, vec_items, Option, Ok, Err, Result}
+use Rattle.std.specs.Prelude.{◌≡◌, ◌⊎◌, ℕ, false, List, [], take, replicate, vec_items, Option, Ok, Err, Result}
 use Rattle.refusal.specs.declared.Refusal.{Refusal}
 use Rattle.refusal.specs.Refusals.{Refuses}
 use Rattle.style.specs.declared.style.EmptyElementHandling.{EmptyElementHandling}
 use Rattle.style.specs.declared.indentation.Indentation.{Indentation}
 use Rattle.style.specs.Indents.{allowed}
+use Rattle.script.specs.declared.fault.ScriptError.{ScriptError}
+use Rattle.script.specs.declared.fault.Fault.TheVariants.{Memory}
 use Rattle.script.specs.declared.settings.Sizes.{Sizes}
 use Rattle.script.specs.declared.settings.SinkChoice.{SinkChoice}
 use Rattle.script.specs.declared.settings.SinkChoice.TheVariants.{Buffer, Pages}
@@ -39,3 +41,7 @@ IsRunOf b choice r = Made b.setup.style.value.empty_elements b.setup.style.value
 abbrev pub Becomes : Batch → Result Record Refusal → Type 0
 Becomes b (Err e) = (allowed b.setup.style.value.indentation ≡ false) × Refuses 10 0 e
 Becomes b (Ok r) = IsRunOf b b.setup.sink.value r
+
+-- there is no memory, told at the line that asks for it: that of the writer's memories, or that of the sink
+abbrev pub WantsMemory : Batch → ScriptError → Type 0
+WantsMemory b e = (e.fault ≡ Memory) × ((e.line ≡ b.setup.memory.line) ⊎ (e.line ≡ b.setup.sink.line))

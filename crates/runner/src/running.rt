@@ -8,7 +8,7 @@ ghost use Rattle.model.specs.Calls as meant;
 ghost use Rattle.writer.specs.Spelled.{CallsAre};
 ghost use Rattle.writer.specs.Served.{all_answered};
 ghost use Rattle.feed.specs.Making.{calls_made};
-ghost use Rattle.runner.specs.Running.{Made, IsRunOf, Becomes};
+ghost use Rattle.runner.specs.Running.{Made, IsRunOf, Becomes, WantsMemory};
 
 use feed::{Batch, calls_of};
 use model::Frame;
@@ -66,7 +66,7 @@ fn answers_on<S: Sink>(
     sink: &mut S,
 ) -> Result<Vec<Answer>, ScriptError>
     ensures made { IfOk result (λ answers. Made style.empty_elements style.indentation batch.now.setup.memory.value (calls_made batch.now.calls.items) (S.held sink.old) (S.room sink.old) (S.held sink.new) (S.room sink.new) (all_answered answers.items)) }
-    ensures err { IfErr result (λ e. e.fault ≡ Memory) }
+    ensures err { IfErr result (λ e. (e.fault ≡ Memory) × (e.line ≡ batch.now.setup.memory.line)) }
 {
     let memory = batch.setup.memory;
     let calls = calls_of(heap, &batch.calls).map_err(|_| Fault::Memory.at_line(memory.line))?;
@@ -78,7 +78,7 @@ fn in_buffer(heap: Global, style: Style, batch: &Batch, size: usize) -> Result<R
     requires form { style.empty_elements ≡ batch.now.setup.style.value.empty_elements }
     requires indentation { style.indentation ≡ batch.now.setup.style.value.indentation }
     ensures run { IfOk result (IsRunOf batch.now (Buffer size)) }
-    ensures err { IfErr result (λ e. e.fault ≡ Memory) }
+    ensures err { IfErr result (WantsMemory batch.now) }
 {
     let line = batch.setup.sink.line;
     let mut memory = vec![in heap; 0; size].map_err(|_| Fault::Memory.at_line(line))?;
@@ -115,7 +115,7 @@ fn in_pages(heap: Global, style: Style, batch: &Batch) -> Result<Ran, ScriptErro
     requires form { style.empty_elements ≡ batch.now.setup.style.value.empty_elements }
     requires indentation { style.indentation ≡ batch.now.setup.style.value.indentation }
     ensures run { IfOk result (IsRunOf batch.now Pages) }
-    ensures err { IfErr result (λ e. e.fault ≡ Memory) }
+    ensures err { IfErr result (WantsMemory batch.now) }
 {
     let line = batch.setup.sink.line;
     let mut sink = PageSink::new();
@@ -132,7 +132,7 @@ fn in_pages(heap: Global, style: Style, batch: &Batch) -> Result<Ran, ScriptErro
 /// Makes the calls of a batch on a new writer. Only want of memory is an error, told at the line that asks for it.
 pub fn run(heap: Global, batch: &Batch) -> Result<Outcome, ScriptError>
     ensures becomes { IfOk result (Becomes batch.now) }
-    ensures err { IfErr result (λ e. e.fault ≡ Memory) }
+    ensures err { IfErr result (WantsMemory batch.now) }
 {
     let layout = batch.setup.style.value;
     let style = match Style::new(layout.empty_elements, layout.indentation) {
