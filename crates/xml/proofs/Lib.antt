@@ -4,3 +4,4 @@ pub mod Free
 pub mod Escapes
 pub mod Pieces
 pub mod Written
+pub mod Marking

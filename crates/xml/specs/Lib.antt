@@ -3,3 +3,4 @@ pub mod Escaping
 pub mod Reading
 pub mod Back
 pub mod Levels
+pub mod Marked

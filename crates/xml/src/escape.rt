@@ -1,12 +1,13 @@
 // Escaping: the rule that says which bytes are replaced, its three levels, and the one text that replaces them.
 ghost use Rattle.std.specs.Prelude.{◌≡◌, ℕ, ◌+◌, ◌-◌, ◌^◌, ◌<◌, ◌≤◌, min, Bool, true, length};
 ghost use Rattle.xml.specs.declared.escape.Use.{Use};
-ghost use Rattle.xml.specs.Escaping.{nine, asked, added, level_chooses, replacement, escaped, piece};
+ghost use Rattle.xml.specs.Escaping.{nine, asked, added, level_chooses, escaped};
 ghost use Rattle.xml.specs.Back.{Writes, Escapes};
-ghost use Rattle.memory.specs.Laid.{laid};
+ghost use Rattle.xml.specs.Marked.{marked};
 ghost use Rattle.xml.specs.Levels.{level_within, level_enough};
 
-use memory::Piece;
+use crate::chosen::Chosen;
+use memory::{Piece, lay};
 use refusal::Refusal;
 
 /// What a string is written for.
@@ -82,24 +83,6 @@ fn added_by(level: QuoteLevel, byte: u8) -> bool
     }
 }
 
-// The fixed bytes that stand for one of the nine.
-fn replacement_of(byte: u8) -> &'static [u8]
-    requires { nine byte ≡ true }
-    ensures { result.now ≡ replacement byte }
-{
-    match byte {
-        b'<' => b"&lt;",
-        b'>' => b"&gt;",
-        b'\'' => b"&apos;",
-        b'&' => b"&amp;",
-        b'"' => b"&quot;",
-        b'\t' => b"&#9;",
-        b'\n' => b"&#10;",
-        b'\r' => b"&#13;",
-        _ => b"&#32;",
-    }
-}
-
 /// A string, and the rule that it is escaped by wherever it is written. No `Debug`, since a rule need not have it.
 #[derive_where(Clone, Copy)]
 pub struct Unescaped<'a, R> {
@@ -107,60 +90,50 @@ pub struct Unescaped<'a, R> {
     pub rule: &'a R,
 }
 
-impl<'a, R> Unescaped<'a, R> {
+impl<'a, R: EscapeRule> Unescaped<'a, R> {
     /// The same, written for a use.
     pub fn escaped(self, target: Use) -> Escaped<'a, R>
         ensures value { result.value.now ≡ self.entry.value.now }
         ensures rule { result.rule.now ≡ self.entry.rule.now }
         ensures target { result.target ≡ target }
     {
+        let chosen = Chosen::by(self.rule, target);
         Escaped {
             value: self.value,
             rule: self.rule,
             target,
+            chosen,
+            size: chosen.size_of(self.value),
         }
     }
 }
 
 /// A value as it is written for a use: each byte replaced that the rule chooses.
-#[derive_where(Clone, Copy)]
-pub struct Escaped<'a, R> {
+// Its size is counted once, where it is made, since it is asked for before it is laid.
+#[derive(Drop)]
+pub struct Escaped<'a, R: EscapeRule> {
     pub value: &'a [u8],
     pub rule: &'a R,
     pub target: Use,
-}
-
-impl<R: EscapeRule> Escaped<'_, R> {
-    // A byte of it: what replaces it, or else the byte itself. Two options of which one is none, since a pair of pieces is a
-    // piece already.
-    fn piece(&self, byte: u8) -> (Option<&'static [u8]>, Option<[u8; 1]>)
-        ensures { ⟦<(Option<&'static [u8]>, Option<[u8; 1]>) as Piece>⟧.bytes result ≡ piece (R.chooses self.now.rule.now self.now.target) byte }
-    {
-        if self.rule.replaces(self.target, byte) {
-            (Some(replacement_of(byte)), None)
-        } else {
-            (None, Some([byte]))
-        }
-    }
+    chosen: Chosen,
+    size: usize,
+    ghost marks: { (b : ℕ) → marked chosen.bits b ≡ R.chooses rule.now target b },
+    ghost measured: { size ≡ min (length (escaped (marked chosen.bits) value.now)) (2 ^ 64 - 1) },
 }
 
 impl<R: EscapeRule> Piece for Escaped<'_, R> {
     ghost bytes = { λ e. escaped (R.chooses e.rule.now e.target) e.value.now };
 
     fn size(&self) -> usize {
-        self.value.iter().fold(
-            0usize,
-            |len, byte| len.saturating_add(self.piece(*byte).size()),
-        )
+        self.size
     }
 
     fn lay(&self, out: &mut [u8], at: usize) -> usize {
-        // A loop, since after a closure that writes to what it borrows a proof knows nothing of that.
-        let mut end = at;
-        for byte in self.value {
-            end = self.piece(*byte).lay(out, end);
+        if self.size == self.value.len() {
+            lay(out, at, self.value)
+        } else {
+            self.chosen.lay(self.value, out, at)
         }
-        end
     }
 }
 
@@ -169,11 +142,7 @@ impl<R: EscapeRule> Piece for Escaped<'_, R> {
 pub fn escaped_len<R: EscapeRule>(value: &[u8], rule: &R, target: Use) -> usize
     ensures value { result ≡ min (length (escaped (R.chooses rule.now target) value.now)) (2 ^ 64 - 1) }
 {
-    let escaped = Escaped {
-        value,
-        rule,
-        target,
-    };
+    let escaped = Unescaped { value, rule }.escaped(target);
     escaped.size()
 }
 
@@ -189,11 +158,7 @@ pub fn escape_into<R: EscapeRule>(
 ) -> Result<usize, Refusal>
     ensures escapes { Escapes target (R.chooses rule.now target) value.now at result out.old out.new }
 {
-    let escaped = Escaped {
-        value,
-        rule,
-        target,
-    };
+    let escaped = Unescaped { value, rule }.escaped(target);
     if out.len() < at.saturating_add(escaped.size()) {
         return Err(Refusal::Stage);
     }

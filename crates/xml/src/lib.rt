@@ -1,6 +1,7 @@
 // What XML asks of bytes: well-formed text, names, and escaping.
 #![tactic(auto)]
 
+mod chosen;
 mod escape;
 mod name;
 mod text;

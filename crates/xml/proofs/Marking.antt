@@ -1,0 +1,112 @@
+-- A set of bytes as bits: nothing is in it at first, and a byte that is put in is in it from then on. Assumes nothing.
+use Rattle.std.proofs.Common.{◌≡◌, ℕ, ◌+◌, ◌*◌, ◌<◌, ◌≤◌, ◌^◌, ◌%◌, Bool, true, false, cond, zero, suc, ◌&&◌, ◌||◌, ◌==◌, nat_lt, bit_or, List, [], ◌∷◌, ◌++◌, length, length-append, get_or, take, codes, w64, sym, refl, ap, ◌∙◌, subst, arith}
+use Rattle.std.proofs.Math.Bool.{and-false}
+use Rattle.std.proofs.lemmas.Bool.{both_ways, eqb-true, eqb-false, lt-ltb, ltb-true}
+use Rattle.std.proofs.lemmas.List.Folds.{list_all_at}
+use Rattle.std.proofs.lemmas.Nat.Bits.{bit_at-zero, bit_at_set_same, bit_at_set_other}
+use Rattle.xml.specs.Escaping.{among, nine, replacement, piece, escaped}
+use Rattle.xml.specs.Marked.{marked}
+
+pub unmarked : (b : ℕ) → marked 0 b ≡ false
+unmarked b = ap (λ n. nat_lt b 64 && n == 1) (bit_at-zero b) ∙ and-false (nat_lt b 64)
+
+pub mark : (bits k : ℕ) → k < 64 → (b : ℕ) → marked (bit_or bits (1 * 2 ^ k % 2 ^ 64)) b ≡ (b == k || marked bits b)
+mark bits k h b = one (b == k) refl
+  where
+    new : ℕ
+    new = bit_or bits (1 * 2 ^ k % 2 ^ 64)
+
+    one : (t : Bool) → (b == k) ≡ t → marked new b ≡ (t || marked bits b)
+    one true e = subst (λ y. marked new y ≡ true) (sym (eqb-true b k e)) (rw (lt-ltb k 64 h, bit_at_set_same w64 bits k h) refl)
+    one false e = ap (λ n. nat_lt b 64 && n == 1) (bit_at_set_other w64 bits k h b (eqb-false b k e))
+
+-- one more byte of a list
+pub among_more : (b : ℕ) (xs : List ℕ) (i : ℕ) → i < length xs → among b (take (suc i) xs) ≡ (among b (take i xs) || b == get_or xs i 0)
+among_more b [] i h = absurd (omega arith)
+among_more b (x ∷ xs) zero h = one (b == x)
+  where
+    one : (t : Bool) → (t || false) ≡ t
+    one true = refl
+    one false = refl
+among_more b (x ∷ xs) (suc i) h = one (b == x) (among_more b xs i (omega arith))
+  where
+    one : (t : Bool) → among b (take (suc i) xs) ≡ (among b (take i xs) || b == get_or xs i 0) → (t || among b (take (suc i) xs)) ≡ ((t || among b (take i xs)) || b == get_or xs i 0)
+    one true e = refl
+    one false e = e
+
+-- a rule chooses no other than the nine
+pub only_nine : (chosen : ℕ → Bool) → ((b : ℕ) → chosen b ≡ true → nine b ≡ true) → (b : ℕ) → (nine b && chosen b) ≡ chosen b
+only_nine chosen within b = one (chosen b) refl
+  where
+    one : (t : Bool) → chosen b ≡ t → (nine b && t) ≡ t
+    one true e = ap (λ x. x && true) (within b e)
+    one false e = and-false (nine b)
+
+join : (a e c t : Bool) → (e ≡ true → c ≡ t) → (cond t e false || (a && c)) ≡ ((a || e) && c)
+join true true true true h = refl
+join true true false false h = refl
+join true true true false h = absurd (both_ways true (h refl) refl)
+join true true false true h = absurd (both_ways false refl (h refl))
+join true false true true h = refl
+join true false true false h = refl
+join true false false true h = refl
+join true false false false h = refl
+join false true true true h = refl
+join false true false false h = refl
+join false true true false h = absurd (both_ways true (h refl) refl)
+join false true false true h = absurd (both_ways false refl (h refl))
+join false false true true h = refl
+join false false true false h = refl
+join false false false true h = refl
+join false false false false h = refl
+
+-- the bytes so far, and one more that the rule was asked about
+pub marked_more : (chosen : ℕ → Bool) (xs : List ℕ) (i bits : ℕ) → i < length xs → ((b : ℕ) → marked bits b ≡ (among b (take i xs) && chosen b)) → (t : Bool) → t ≡ chosen (get_or xs i 0) → (bits' : ℕ) → ((b : ℕ) → marked bits' b ≡ (cond t (b == get_or xs i 0) false || marked bits b)) → (b : ℕ) → marked bits' b ≡ (among b (take (i + 1) xs) && chosen b)
+marked_more chosen xs i bits h before t asked bits' put b =
+    let x = get_or xs i 0 in
+    let next : i + 1 ≡ suc i = omega arith in
+    let same : b == x ≡ true → chosen b ≡ t = λ e. ap chosen (eqb-true b x e) ∙ sym asked in
+    put b ∙ ap (λ m. cond t (b == x) false || m) (before b) ∙ join (among b (take i xs)) (b == x) (chosen b) t same ∙ ap (λ m. m && chosen b) (sym (ap (λ n. among b (take n xs)) next ∙ among_more b xs i h))
+
+-- the nine are below 64
+pub below_64 : (i : ℕ) → i < 9 → get_or (60 ∷ 62 ∷ 39 ∷ 38 ∷ 34 ∷ 9 ∷ 10 ∷ 13 ∷ 32 ∷ []) i 0 < 64
+below_64 i h = one (nat_lt x 64) refl
+  where
+    nines : List ℕ
+    nines = 60 ∷ 62 ∷ 39 ∷ 38 ∷ 34 ∷ 9 ∷ 10 ∷ 13 ∷ 32 ∷ []
+
+    x : ℕ
+    x = get_or nines i 0
+
+    one : (t : Bool) → nat_lt x 64 ≡ t → x < 64
+    one true e = ltb-true x 64 e
+    one false e = absurd (both_ways true (list_all_at (λ b. nat_lt b 64) nines i 0 h e) refl)
+
+-- the same bytes are chosen, so the same come out
+pub escaped_by : (p q : ℕ → Bool) → ((b : ℕ) → p b ≡ q b) → (bs : List ℕ) → escaped p bs ≡ escaped q bs
+escaped_by p q same [] = refl
+escaped_by p q same (b ∷ bs) = ap (λ t. cond t (replacement b) (b ∷ []) ++ escaped p bs) (same b) ∙ ap (λ l. piece q b ++ l) (escaped_by p q same bs)
+
+long : (b : ℕ) → 2 ≤ length (replacement b)
+long b = one (b == 60) (codes "&lt;") _ (omega arith) (one (b == 62) (codes "&gt;") _ (omega arith) (one (b == 39) (codes "&apos;") _ (omega arith) (one (b == 38) (codes "&amp;") _ (omega arith) (one (b == 34) (codes "&quot;") _ (omega arith) (one (b == 9) (codes "&#9;") _ (omega arith) (one (b == 10) (codes "&#10;") _ (omega arith) (one (b == 13) (codes "&#13;") _ (omega arith) (omega arith))))))))
+  where
+    one : (t : Bool) (xs ys : List ℕ) → 2 ≤ length xs → 2 ≤ length ys → 2 ≤ length (cond t xs ys)
+    one true xs ys h k = h
+    one false xs ys h k = k
+
+-- no value gets shorter, and one that stays as long stays as it is
+no_shorter : (p : ℕ → Bool) (bs : List ℕ) → length bs ≤ length (escaped p bs)
+no_shorter p [] = omega arith
+no_shorter p (b ∷ bs) = one (p b) (no_shorter p bs)
+  where
+    one : (t : Bool) → length bs ≤ length (escaped p bs) → length (b ∷ bs) ≤ length (cond t (replacement b) (b ∷ []) ++ escaped p bs)
+    one true h = omega (arith, h, long b, length-append (replacement b) (escaped p bs))
+    one false h = omega (arith, h)
+
+pub as_long : (p : ℕ → Bool) (bs : List ℕ) → length (escaped p bs) ≡ length bs → escaped p bs ≡ bs
+as_long p [] h = refl
+as_long p (b ∷ bs) h = one (p b) h (as_long p bs)
+  where
+    one : (t : Bool) → length (cond t (replacement b) (b ∷ []) ++ escaped p bs) ≡ length (b ∷ bs) → (length (escaped p bs) ≡ length bs → escaped p bs ≡ bs) → cond t (replacement b) (b ∷ []) ++ escaped p bs ≡ b ∷ bs
+    one true h rest = absurd (omega (arith, h, long b, no_shorter p bs, length-append (replacement b) (escaped p bs)))
+    one false h rest = ap (λ l. b ∷ l) (rest (omega (arith, h)))

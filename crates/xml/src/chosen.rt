@@ -1,0 +1,98 @@
+// The bytes that a rule replaces for one use. The rule is asked once for each byte that has a replacement, and not at each byte
+// of a value: a value is walked at the cost of one bit's test a byte.
+ghost use Rattle.std.specs.Prelude.{◌≡◌, ℕ, ◌+◌, ◌-◌, ◌^◌, ◌≤◌, true, length, min};
+ghost use Rattle.memory.specs.Laid.{laid};
+ghost use Rattle.xml.specs.Escaping.{nine, replacement, piece, escaped};
+ghost use Rattle.xml.specs.Marked.{marked};
+
+use crate::escape::{EscapeRule, Use};
+use memory::lay;
+
+// The bytes that have a replacement; all are below 64.
+const NINE: [u8; 9] = *b"<>'&\"\t\n\r ";
+
+/// A set of bytes that have a replacement, one bit for each.
+#[derive(Clone, Copy, PartialEq, Eq, Debug)]
+pub struct Chosen {
+    bits: u64,
+    ghost within: { (b : ℕ) → marked bits b ≡ true → nine b ≡ true },
+}
+
+// The fixed bytes that stand for one of the nine.
+fn replacement_of(byte: u8) -> &'static [u8]
+    requires { nine byte ≡ true }
+    ensures { result.now ≡ replacement byte }
+{
+    match byte {
+        b'<' => b"&lt;",
+        b'>' => b"&gt;",
+        b'\'' => b"&apos;",
+        b'&' => b"&amp;",
+        b'"' => b"&quot;",
+        b'\t' => b"&#9;",
+        b'\n' => b"&#10;",
+        b'\r' => b"&#13;",
+        _ => b"&#32;",
+    }
+}
+
+impl Chosen {
+    /// The bytes that this rule replaces for a use.
+    pub fn by<R: EscapeRule>(rule: &R, target: Use) -> Chosen
+        ensures marks { (b : ℕ) → marked result.bits b ≡ R.chooses rule.now target b }
+    {
+        let mut bits = 0u64;
+        for byte in NINE {
+            if rule.replaces(target, byte) {
+                bits |= 1 << byte;
+            }
+        }
+        Chosen { bits }
+    }
+
+    // Whether this byte is replaced.
+    fn has(self, byte: u8) -> bool
+        ensures value { result ≡ marked self.bits byte }
+    {
+        byte < 64 && (self.bits >> byte) & 1 == 1
+    }
+
+    // How many bytes stand for one.
+    fn width(self, byte: u8) -> usize
+        ensures value { result ≡ length (piece (marked self.bits) byte) }
+    {
+        if self.has(byte) {
+            replacement_of(byte).len()
+        } else {
+            1
+        }
+    }
+
+    /// How many bytes a value has once they are replaced; the largest `usize` where they are more than that.
+    pub fn size_of(self, value: &[u8]) -> usize
+        ensures value { result ≡ min (length (escaped (marked self.bits) value.now)) (2 ^ 64 - 1) }
+    {
+        value
+            .iter()
+            .fold(0usize, |len, byte| len.saturating_add(self.width(*byte)))
+    }
+
+    /// Lays a value over `out` from `at` on, each of these bytes replaced, and answers where it ends. What stands between two
+    /// of them is laid as one run.
+    pub fn lay(self, value: &[u8], out: &mut [u8], at: usize) -> usize
+        requires { at + length (escaped (marked self.bits) value.now) ≤ length out.old }
+        ensures end { result ≡ at + length (escaped (marked self.bits) value.now) }
+        ensures bytes { out.new ≡ laid out.old at (escaped (marked self.bits) value.now) }
+    {
+        let mut end = at;
+        let mut from = 0;
+        for (i, byte) in value.iter().enumerate() {
+            if self.has(*byte) {
+                end = lay(out, end, &value[from..i]);
+                end = lay(out, end, replacement_of(*byte));
+                from = i + 1;
+            }
+        }
+        lay(out, end, &value[from..])
+    }
+}
