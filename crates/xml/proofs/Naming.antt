@@ -1,15 +1,17 @@
 -- The computed place of a name's fault is the first character at fault, and a name has none. Assumes nothing.
-use Rattle.std.proofs.Common.{◌≡◌, ℕ, ◌+◌, Bool, true, false, cond, ◌&&◌, List, [], ◌∷◌, ◌++◌, length, drop, Some, None, IsUtf8, Option, sym, refl, ap, ◌∙◌, subst, inl, inr, append_assoc, append-nil, zero-add, length-append}
+use Rattle.std.proofs.Common.{◌≡◌, ℕ, ◌+◌, Bool, true, false, cond, nat_lt, ◌&&◌, List, [], ◌∷◌, ◌++◌, length, drop, Some, None, IsUtf8, Option, sym, refl, ap, ◌∙◌, subst, inl, inr, append_assoc, append-nil, zero-add, length-append}
 use lib.Utf8.{scalar, scalars, encode, encodes}
 use Rattle.std.specs.List.{list_all}
 use Rattle.std.specs.Char.{len_utf8}
 use Rattle.std.specs.Str.{chars}
 use Rattle.std.specs.Str.Pattern.{FindsPrefixBy}
-use Rattle.std.proofs.lemmas.Str.{encodes-append, length-encode, encodes-chars, scalars-chars, chars-encodes, chars-nil, chars_past_char}
+use Rattle.std.proofs.lemmas.Str.{encodes-append, length-encode, encodes-chars, scalars-chars, chars-encodes, chars-nil, chars_past_char, chars-IsAscii}
+use Rattle.std.specs.Str.{IsAscii}
+use Rattle.std.proofs.lemmas.Str.Ascii.{IsAscii-nil, IsAscii-cons}
 use Rattle.std.proofs.lemmas.List.{nil_from_length}
 use Rattle.std.proofs.lemmas.List.Folds.{list_all-append}
 use Rattle.std.proofs.lemmas.Option.{none-some, same_Some}
-use Rattle.std.proofs.lemmas.Bool.{and_from, and_parts, both_ways, cond-true, cond-false, or_left}
+use Rattle.std.proofs.lemmas.Bool.{and_from, and_parts, both_ways, cond-true, cond-false, ltb-true, or_left}
 use Rattle.xml.specs.Names.{is_start, is_name_char, is_name, Name, may_follow, FirstAtFault, Faults, stray_from, fault_from, name_fault}
 
 -- one more name character behind a name is a name
@@ -130,3 +132,24 @@ fault_later bs n u begun =
 
 pub name_from_no_fault : {n : List ℕ} → IsUtf8 n → name_fault n ≡ None → Name n
 name_from_no_fault {n} u e = faults_of n u None (sym e)
+
+-- ASCII bytes are their characters, so such a name needs no decoding
+abbrev pub plain : ℕ → Bool
+plain b = nat_lt b 128 && is_name_char b
+
+plain_all : (cs : List ℕ) → list_all plain cs ≡ true → (list_all is_name_char cs ≡ true) × IsAscii cs
+plain_all [] h = (refl, IsAscii-nil)
+plain_all (c ∷ cs) h =
+    let p = and_parts (plain c) (list_all plain cs) h in
+    let q = and_parts (nat_lt c 128) (is_name_char c) p.0 in
+    let rest = plain_all cs p.1 in
+    (and_from (is_name_char c) (list_all is_name_char cs) q.1 rest.0, IsAscii-cons c cs (ltb-true c 128 q.0) rest.1)
+
+pub plain_name : (c : ℕ) (cs : List ℕ) → (nat_lt c 128 && is_start c) ≡ true → list_all plain cs ≡ true → (is_name (c ∷ cs) ≡ true) × IsAscii (c ∷ cs)
+plain_name c cs h k =
+    let p = and_parts (nat_lt c 128) (is_start c) h in
+    let rest = plain_all cs k in
+    (and_from (is_start c) (list_all is_name_char cs) p.1 rest.0, IsAscii-cons c cs (ltb-true c 128 p.0) rest.1)
+
+pub plain_no_fault : (bs : List ℕ) → is_name bs ≡ true → IsAscii bs → None ≡ name_fault bs
+plain_no_fault bs h k = sym (ap (λ cs. fault_from cs 0) (chars-IsAscii bs k) ∙ fault_none bs h)

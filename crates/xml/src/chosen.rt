@@ -57,24 +57,17 @@ impl Chosen {
         byte < 64 && (self.bits >> byte) & 1 == 1
     }
 
-    // How many bytes stand for one.
-    fn width(self, byte: u8) -> usize
-        ensures value { result ≡ length (piece (marked self.bits) byte) }
-    {
-        if self.has(byte) {
-            replacement_of(byte).len()
-        } else {
-            1
-        }
-    }
-
     /// How many bytes a value has once they are replaced; the largest `usize` where they are more than that.
     pub fn size_of(self, value: &[u8]) -> usize
         ensures value { result ≡ min (length (escaped (marked self.bits) value.now)) (2 ^ 64 - 1) }
     {
-        value
-            .iter()
-            .fold(0usize, |len, byte| len.saturating_add(self.width(*byte)))
+        let mut len = value.len();
+        for byte in value {
+            if self.has(*byte) {
+                len = len.saturating_add(replacement_of(*byte).len() - 1);
+            }
+        }
+        len
     }
 
     /// Lays a value over `out` from `at` on, each of these bytes replaced, and answers where it ends. What stands between two

@@ -1,8 +1,8 @@
 // Names of elements and attributes: production 5 of XML 1.0, Fifth Edition.
-ghost use Rattle.std.specs.Prelude.{◌≡◌, Some, None, MatchResult};
-ghost use Rattle.std.specs.Str.{chars};
+ghost use Rattle.std.specs.Prelude.{◌≡◌, ◌&&◌, true, Some, None, MatchResult, nat_lt};
+ghost use Rattle.std.specs.Str.{chars, IsAscii};
 ghost use Rattle.refusal.specs.Refusals.{number, offset};
-ghost use Rattle.xml.specs.Names.{is_start, is_name_char, stray_from, name_fault, Name, FirstAtFault, Faults};
+ghost use Rattle.xml.specs.Names.{is_start, is_name_char, is_name, stray_from, name_fault, Name, FirstAtFault, Faults};
 
 use refusal::Refusal;
 
@@ -58,12 +58,43 @@ fn first_stray(name: &str) -> Option<usize>
     stray
 }
 
+// Whether a byte is a character that begins a name; of the others, some are and are asked for as characters.
+fn is_plain_start(byte: u8) -> bool
+    ensures start { result ≡ true → (nat_lt byte 128 && is_start byte) ≡ true }
+{
+    matches!(byte, b'a'..=b'z' | b'A'..=b'Z' | b'_' | b':')
+}
+
+// The same of one that stands in a name.
+fn is_plain(byte: u8) -> bool
+    ensures inside { result ≡ true → (nat_lt byte 128 && is_name_char byte) ≡ true }
+{
+    matches!(byte, b'a'..=b'z' | b'A'..=b'Z' | b'0'..=b'9' | b'_' | b':' | b'-' | b'.')
+}
+
+// Whether these bytes are a name for sure, as nearly every name is: no character has to be decoded then.
+fn is_plain_name(bytes: &[u8]) -> bool
+    ensures plain { result ≡ true → (is_name bytes.now ≡ true) × IsAscii bytes.now }
+{
+    let [first, rest @ ..] = bytes else {
+        return false;
+    };
+    for byte in rest {
+        if !is_plain(*byte) {
+            return false;
+        }
+    }
+    is_plain_start(*first)
+}
+
 // The offset of the first character at fault: a name also has to begin, and with a start character.
 fn first_fault(name: &str) -> Option<usize>
     ensures value { result ≡ name_fault name.now }
     ensures faults { Faults result name.now }
 {
-    if name.starts_with(is_name_start_char) {
+    if is_plain_name(name.as_bytes()) {
+        None
+    } else if name.starts_with(is_name_start_char) {
         first_stray(name)
     } else {
         Some(0)
