@@ -1,9 +1,11 @@
 -- A set of bytes as bits: nothing is in it at first, and a byte that is put in is in it from then on. Assumes nothing.
-use Rattle.std.proofs.Common.{◌≡◌, ℕ, ◌+◌, ◌*◌, ◌<◌, ◌≤◌, ◌^◌, ◌%◌, Bool, true, false, cond, zero, suc, ◌&&◌, ◌||◌, ◌==◌, nat_lt, bit_or, List, [], ◌∷◌, ◌++◌, length, length-append, get_or, take, codes, w64, sym, refl, ap, ◌∙◌, subst, arith}
+use Rattle.std.proofs.Common.{◌≡◌, ℕ, ◌+◌, ◌*◌, ◌<◌, ◌≤◌, ◌^◌, ◌%◌, Bool, true, false, cond, zero, suc, ◌&&◌, ◌||◌, ◌==◌, not, nat_eq, nat_lt, bit_and, bit_or, List, [], ◌∷◌, ◌++◌, length, length-append, get_or, take, codes, w64, sym, refl, ap, ◌∙◌, subst, arith}
 use Rattle.std.proofs.Math.Bool.{and-false}
-use Rattle.std.proofs.lemmas.Bool.{both_ways, eqb-true, eqb-false, lt-ltb, ltb-true}
+use Rattle.std.proofs.lemmas.Bool.{both_ways, eqb-true, eqb-false, ne_eqb, lt-ltb, ltb-true}
 use Rattle.std.proofs.lemmas.List.Folds.{list_all_at}
-use Rattle.std.proofs.lemmas.Nat.Bits.{bit_at-zero, bit_at_set_same, bit_at_set_other}
+use Rattle.std.proofs.lemmas.Nat.Bits.{bit_at-zero, bit_at_set_same, bit_at_set_other, and_pow}
+use Rattle.std.proofs.lemmas.Nat.{one_shl, pow_pos}
+use Rattle.std.specs.Int.{bit_at}
 use Rattle.xml.specs.Escaping.{among, nine, replacement, piece, escaped}
 use Rattle.xml.specs.Marked.{marked}
 
@@ -110,3 +112,18 @@ as_long p (b ∷ bs) h = one (p b) h (as_long p bs)
     one : (t : Bool) → length (cond t (replacement b) (b ∷ []) ++ escaped p bs) ≡ length (b ∷ bs) → (length (escaped p bs) ≡ length bs → escaped p bs ≡ bs) → cond t (replacement b) (b ∷ []) ++ escaped p bs ≡ b ∷ bs
     one true h rest = absurd (omega (arith, h, long b, no_shorter p bs, length-append (replacement b) (escaped p bs)))
     one false h rest = ap (λ l. b ∷ l) (rest (omega (arith, h)))
+
+-- the test of one bit
+pub bit_tests : (bits k : ℕ) → k < 64 → not (nat_eq (bit_and bits (1 * 2 ^ k % 2 ^ 64)) 0) ≡ marked bits k
+bit_tests bits k h = ap (λ m. not (nat_eq m 0)) masked ∙ one (bit_at bits k) (omega arith) ∙ ap (λ t. t && bit_at bits k == 1) (sym (lt-ltb k 64 h))
+  where
+    masked : bit_and bits (1 * 2 ^ k % 2 ^ 64) ≡ bit_at bits k * 2 ^ k
+    masked = ap (bit_and bits) (one_shl k 64 h) ∙ and_pow bits k
+
+    one : (v : ℕ) → v < 2 → not (nat_eq (v * 2 ^ k) 0) ≡ (v == 1)
+    one zero l = ap (λ m. not (nat_eq m 0)) none
+      where
+        none : 0 * 2 ^ k ≡ 0
+        none = omega arith
+    one (suc zero) l = ap not (ne_eqb (1 * 2 ^ k) 0 (λ e. absurd (omega (arith, e, pow_pos k))))
+    one (suc (suc v)) l = absurd (omega arith)

@@ -54,7 +54,7 @@ impl Chosen {
     fn has(self, byte: u8) -> bool
         ensures value { result ≡ marked self.bits byte }
     {
-        byte < 64 && (self.bits >> byte) & 1 == 1
+        byte < 64 && self.bits & (1 << byte) != 0
     }
 
     /// How many bytes a value has once they are replaced; the largest `usize` where they are more than that.
@@ -72,6 +72,8 @@ impl Chosen {
 
     /// Lays a value over `out` from `at` on, each of these bytes replaced, and answers where it ends. What stands between two
     /// of them is laid as one run.
+    // Not inlined, so that what lays a value without them stays small.
+    #[inline(never)]
     pub fn lay(self, value: &[u8], out: &mut [u8], at: usize) -> usize
         requires { at + length (escaped (marked self.bits) value.now) ≤ length out.old }
         ensures end { result ≡ at + length (escaped (marked self.bits) value.now) }

@@ -128,6 +128,7 @@ impl<R: EscapeRule> Piece for Escaped<'_, R> {
         self.size
     }
 
+    #[inline(always)]
     fn lay(&self, out: &mut [u8], at: usize) -> usize {
         if self.size == self.value.len() {
             lay(out, at, self.value)

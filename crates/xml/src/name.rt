@@ -62,14 +62,15 @@ fn first_stray(name: &str) -> Option<usize>
 fn is_plain_start(byte: u8) -> bool
     ensures start { result ≡ true → (nat_lt byte 128 && is_start byte) ≡ true }
 {
-    matches!(byte, b'a'..=b'z' | b'A'..=b'Z' | b'_' | b':')
+    byte.is_ascii_alphabetic() || matches!(byte, b'_' | b':')
 }
 
 // The same of one that stands in a name.
 fn is_plain(byte: u8) -> bool
     ensures inside { result ≡ true → (nat_lt byte 128 && is_name_char byte) ≡ true }
 {
-    matches!(byte, b'a'..=b'z' | b'A'..=b'Z' | b'0'..=b'9' | b'_' | b':' | b'-' | b'.')
+    // Letters first, as nearly all are.
+    byte.is_ascii_alphabetic() || matches!(byte, b'0'..=b'9' | b'_' | b':' | b'-' | b'.')
 }
 
 // Whether these bytes are a name for sure, as nearly every name is: no character has to be decoded then.
