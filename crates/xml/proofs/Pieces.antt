@@ -1,15 +1,10 @@
--- A value written in runs: the bytes between two that are replaced at one stroke, and then the replacement. Assumes nothing.
-use Rattle.std.proofs.Common.{◌≡◌, ℕ, ◌+◌, ◌-◌, ◌<◌, ◌≤◌, List, [], ◌∷◌, ◌++◌, length, get_or, take, drop, sym, ap, ◌∙◌, subst, append-nil, arith, length-append}
-use Rattle.std.specs.List.{flat_map}
-use Rattle.std.proofs.lemmas.List.{take_more, take_all, get_or-drop, append_assoc, length-drop}
-use Rattle.std.proofs.lemmas.List.Folds.{length-flat_map-take}
+-- A value written in runs: the bytes up to the next that is replaced at one stroke, and then the replacement. Assumes nothing.
+use Rattle.std.proofs.Common.{◌≡◌, ℕ, ◌+◌, ◌≤◌, ◌<◌, ◌-◌, Bool, true, false, List, [], ◌∷◌, ◌++◌, length, get_or, take, drop, sym, refl, ap, ◌∙◌, append-nil, arith, length-append}
+use Rattle.std.proofs.lemmas.List.{take_more, take_all, append_assoc, take-append-drop, get_or-drop, length-drop}
 use Rattle.std.proofs.lemmas.Grind.{flat_map-append}
 use Rattle.memory.specs.Laid.{laid}
 use Rattle.memory.proofs.Laying.{laid-laid, laid_none}
-
--- one more piece
-joined_step : (f : ℕ → List ℕ) (xs : List ℕ) (i : ℕ) → i < length xs → flat_map f (take (i + 1) xs) ≡ flat_map f (take i xs) ++ f (get_or xs i 0)
-joined_step f xs i h = ap (flat_map f) (take_more xs i 0 h) ∙ flat_map-append f (take i xs) (get_or xs i 0 ∷ []) ∙ ap (λ l. flat_map f (take i xs) ++ l) (append-nil (f (get_or xs i 0)))
+use Rattle.xml.specs.Escaping.{piece, replacement, escaped}
 
 -- these bytes stand in `out` from `at` up to `end`; before the first, out was d
 abbrev pub Placed : List ℕ → ℕ → List ℕ → ℕ → List ℕ → Type 0
@@ -24,63 +19,54 @@ placed_more d at done s fits end out p end' out' e q = (
   q ∙ ap (λ n. laid out n s) p.0 ∙ ap (λ l. laid l (at + length done) s) p.1 ∙ laid-laid d done s at fits,
 )
 
--- the bytes from `from` up to i stay as they are
-abbrev pub Run : (ℕ → List ℕ) → List ℕ → ℕ → ℕ → Type 0
-Run f xs from i = (from ≤ i) × (flat_map f (take i xs) ≡ flat_map f (take from xs) ++ take (i - from) (drop from xs))
-
-pub run_none : (f : ℕ → List ℕ) (xs : List ℕ) (i : ℕ) → Run f xs i i
-run_none f xs i =
-    let none : i - i ≡ 0 = omega arith in
-    (omega arith, sym (ap (λ n. flat_map f (take i xs) ++ take n (drop i xs)) none ∙ append-nil (flat_map f (take i xs))))
-
-pub run_more : (f : ℕ → List ℕ) (xs : List ℕ) (from i : ℕ) → Run f xs from i → i < length xs → f (get_or xs i 0) ≡ get_or xs i 0 ∷ [] → Run f xs from (i + 1)
-run_more f xs from i r h stays =
-    let before = flat_map f (take from xs) in
+-- one more byte that stays
+pub stays_more : (p : ℕ → Bool) (xs : List ℕ) (i : ℕ) → i < length xs → escaped p (take i xs) ≡ take i xs → p (get_or xs i 0) ≡ false → escaped p (take (i + 1) xs) ≡ take (i + 1) xs
+stays_more p xs i h e n =
     let x = get_or xs i 0 in
-    let run = take (i - from) (drop from xs) in
-    let far : i + 1 - from ≡ i - from + 1 = omega (arith, r.0) in
-    let there : from + (i - from) ≡ i = omega (arith, r.0) in
-    let same : get_or (drop from xs) (i - from) 0 ≡ x = get_or-drop from xs (i - from) 0 ∙ ap (λ k. get_or xs k 0) there in
-    let longer : take (i + 1 - from) (drop from xs) ≡ run ++ x ∷ [] = ap (λ n. take n (drop from xs)) far ∙ take_more (drop from xs) (i - from) 0 (omega (arith, length-drop from xs, r.0)) ∙ ap (λ y. run ++ y ∷ []) same in
-    (omega (arith, r.0), joined_step f xs i h ∙ ap (λ l. l ++ f x) r.1 ∙ ap (λ l. (before ++ run) ++ l) stays ∙ append_assoc before run (x ∷ []) ∙ ap (λ l. before ++ l) (sym longer))
+    let more = take_more xs i 0 h in
+    ap (escaped p) more ∙ flat_map-append (piece p) (take i xs) (x ∷ []) ∙ ap (λ l. l ++ escaped p (x ∷ [])) e ∙ ap (λ l. take i xs ++ l) (rw n refl) ∙ sym more
 
-module _ (f : ℕ → List ℕ) (d : List ℕ) (at : ℕ) (xs : List ℕ) (fits : at + length (flat_map f xs) ≤ length d) where
-  -- a run and the piece behind it fit
-  pub both_fit : (from i : ℕ) → Run f xs from i → i < length xs → at + length (flat_map f (take from xs)) + length (take (i - from) (drop from xs)) + length (f (get_or xs i 0)) ≤ length d
-  both_fit from i r h =
-      let before = flat_map f (take from xs) in
-      let run = take (i - from) (drop from xs) in
-      let whole : length (flat_map f (take i xs)) ≡ length before + length run = ap length r.1 ∙ length-append before run in
-      omega (arith, fits, whole, length-flat_map-take f xs i 0 h)
+-- a run, a byte that is replaced, and what comes behind
+pub in_parts : (p : ℕ → Bool) (run : List ℕ) (b : ℕ) (behind : List ℕ) → escaped p run ≡ run → p b ≡ true → escaped p (run ++ b ∷ behind) ≡ (run ++ replacement b) ++ escaped p behind
+in_parts p run b behind e h =
+    flat_map-append (piece p) run (b ∷ behind) ∙ ap (λ l. l ++ escaped p (b ∷ behind)) e ∙ ap (λ l. run ++ l) (rw h refl) ∙ sym (append_assoc run (replacement b) (escaped p behind))
 
-  pub run_placed : (from i end : ℕ) (out : List ℕ) → Placed d at (flat_map f (take from xs)) end out → Run f xs from i → i < length xs → (end' : ℕ) (out' : List ℕ) → end' ≡ end + length (take (i - from) (drop from xs)) → out' ≡ laid out end (take (i - from) (drop from xs)) → Placed d at (flat_map f (take i xs)) end' out'
-  run_placed from i end out p r h end' out' e q =
-      subst (λ done. Placed d at done end' out') (sym r.1) (placed_more d at (flat_map f (take from xs)) (take (i - from) (drop from xs)) (omega (arith, both_fit from i r h)) end out p end' out' e q)
+-- where nothing comes behind the run, the run is all
+pub run_is_all : (p : ℕ → Bool) (run back : List ℕ) → escaped p run ≡ run → length back < 1 → escaped p (run ++ back) ≡ run
+run_is_all p run [] e h = ap (escaped p) (append-nil run) ∙ e
+run_is_all p run (b ∷ back) e h = absurd (omega arith)
 
-  pub piece_placed : (i end : ℕ) (out : List ℕ) → Placed d at (flat_map f (take i xs)) end out → i < length xs → (end' : ℕ) (out' : List ℕ) → end' ≡ end + length (f (get_or xs i 0)) → out' ≡ laid out end (f (get_or xs i 0)) → Placed d at (flat_map f (take (i + 1) xs)) end' out'
-  piece_placed i end out p h end' out' e q =
-      subst (λ done. Placed d at done end' out') (sym (joined_step f xs i h)) (placed_more d at (flat_map f (take i xs)) (f (get_or xs i 0)) (omega (arith, fits, length-flat_map-take f xs i 0 h)) end out p end' out' e q)
+-- else the run and what replaces the first byte behind it are placed next
+pub next_parts : (p : ℕ → Bool) (run back : List ℕ) → escaped p run ≡ run → 1 ≤ length back → p (get_or back 0 0) ≡ true → escaped p (run ++ back) ≡ (run ++ replacement (get_or back 0 0)) ++ escaped p (take (length back - 1) (drop 1 back))
+next_parts p run [] e h t = absurd (omega arith)
+next_parts p run (b ∷ back) e h t =
+    let all : take (length (b ∷ back) - 1) back ≡ back = take_all (length (b ∷ back) - 1) back (omega arith) in
+    in_parts p run b back e t ∙ ap (λ l. (run ++ replacement b) ++ escaped p l) (sym all)
 
-  -- behind the last byte, the last run is all that is left
-  last : (from i : ℕ) → Run f xs from i → length xs ≤ i → flat_map f xs ≡ flat_map f (take from xs) ++ take (length xs - from) (drop from xs)
-  last from i r h =
-      let all : take (length xs - from) (drop from xs) ≡ drop from xs = take_all (length xs - from) (drop from xs) (omega (arith, length-drop from xs)) in
-      let rest : take (i - from) (drop from xs) ≡ drop from xs = take_all (i - from) (drop from xs) (omega (arith, length-drop from xs)) in
-      ap (flat_map f) (sym (take_all i xs h)) ∙ r.1 ∙ ap (λ l. flat_map f (take from xs) ++ l) (rest ∙ sym all)
+-- A step on the way: `done` is placed and `rest` is left, of which the first n bytes stay and the next one, if there is one,
+-- is replaced.
+module _ (p : ℕ → Bool) (value d : List ℕ) (at : ℕ) (fits : at + length (escaped p value) ≤ length d) (done rest : List ℕ) (whole : escaped p value ≡ done ++ escaped p rest) (n : ℕ) (stays : escaped p (take n rest) ≡ take n rest) (next : n < length rest → p (get_or rest n 0) ≡ true) (run back : List ℕ) (front : run ≡ take n rest) (behind : back ≡ drop n rest) where
+  parts : rest ≡ run ++ back
+  parts = sym (ap (λ l. l ++ back) front ∙ ap (λ l. take n rest ++ l) behind ∙ take-append-drop n rest)
 
-  pub all_placed : (from i end : ℕ) (out : List ℕ) → Placed d at (flat_map f (take from xs)) end out → Run f xs from i → length xs ≤ i → (end' : ℕ) (out' : List ℕ) → end' ≡ end + length (take (length xs - from) (drop from xs)) → out' ≡ laid out end (take (length xs - from) (drop from xs)) → Placed d at (flat_map f xs) end' out'
-  all_placed from i end out p r h end' out' e q =
-      let whole = last from i r h in
-      let run = take (length xs - from) (drop from xs) in
-      subst (λ done. Placed d at done end' out') (sym whole) (placed_more d at (flat_map f (take from xs)) run (omega (arith, fits, ap length whole ∙ length-append (flat_map f (take from xs)) run)) end out p end' out' e q)
+  same : escaped p run ≡ run
+  same = ap (escaped p) front ∙ stays ∙ sym front
 
--- behind a piece, a new run begins
-pub run_begins : (f : ℕ → List ℕ) (d : List ℕ) (at : ℕ) (xs : List ℕ) (i from end : ℕ) (out : List ℕ) → from ≡ i → Placed d at (flat_map f (take i xs)) end out → Placed d at (flat_map f (take from xs)) end out × Run f xs from i
-run_begins f d at xs i from end out e p =
-    subst (λ k. Placed d at (flat_map f (take k xs)) end out × Run f xs k i) (sym e) (p, run_none f xs i)
+  replaced : 1 ≤ length back → p (get_or back 0 0) ≡ true
+  replaced h = ap p (ap (λ l. get_or l 0 0) behind ∙ get_or-drop n rest 0 0 ∙ ap (λ k. get_or rest k 0) (omega arith)) ∙ next (omega (arith, h, ap length behind, length-drop n rest))
 
--- a run goes on with a byte that stays
-pub run_goes_on : (f : ℕ → List ℕ) (d : List ℕ) (at : ℕ) (xs : List ℕ) (i from end : ℕ) (out : List ℕ) → Placed d at (flat_map f (take from xs)) end out × Run f xs from i → i < length xs → f (get_or xs i 0) ≡ get_or xs i 0 ∷ [] → (from' end' : ℕ) (out' : List ℕ) → from' ≡ from → end' ≡ end → out' ≡ out → Placed d at (flat_map f (take from' xs)) end' out' × Run f xs from' (i + 1)
-run_goes_on f d at xs i from end out p h stays from' end' out' a b c =
-    subst (λ k. Placed d at (flat_map f (take k xs)) end' out' × Run f xs k (i + 1)) (sym a)
-    ((b ∙ p.0.0, c ∙ p.0.1), run_more f xs from i p.1 h stays)
+  pub run_last : length back < 1 → escaped p value ≡ done ++ run
+  run_last h = whole ∙ ap (λ l. done ++ escaped p l) parts ∙ ap (λ l. done ++ l) (run_is_all p run back same h)
+
+  pub run_next : 1 ≤ length back → escaped p value ≡ ((done ++ run) ++ replacement (get_or back 0 0)) ++ escaped p (take (length back - 1) (drop 1 back))
+  run_next h =
+      let r = replacement (get_or back 0 0) in
+      let left = escaped p (take (length back - 1) (drop 1 back)) in
+      whole ∙ ap (λ l. done ++ escaped p l) parts ∙ ap (λ l. done ++ l) (next_parts p run back same h (replaced h)) ∙ sym (append_assoc done (run ++ r) left) ∙ ap (λ l. l ++ left) (sym (append_assoc done run r))
+
+  -- so both fit
+  pub both_fit : 1 ≤ length back → at + length done + length run + length (replacement (get_or back 0 0)) ≤ length d
+  both_fit h =
+      let r = replacement (get_or back 0 0) in
+      let left = escaped p (take (length back - 1) (drop 1 back)) in
+      omega (arith, fits, ap length (run_next h), length-append ((done ++ run) ++ r) left, length-append (done ++ run) r, length-append done run)

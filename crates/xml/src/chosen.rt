@@ -1,6 +1,6 @@
 // The bytes that a rule replaces for one use. The rule is asked once for each byte that has a replacement, and not at each byte
 // of a value: a value is walked at the cost of one bit's test a byte.
-ghost use Rattle.std.specs.Prelude.{◌≡◌, ℕ, ◌+◌, ◌-◌, ◌^◌, ◌≤◌, true, length, min};
+ghost use Rattle.std.specs.Prelude.{◌≡◌, ℕ, ◌+◌, ◌-◌, ◌^◌, ◌<◌, ◌≤◌, true, length, min, take, slice_index_or};
 ghost use Rattle.memory.specs.Laid.{laid};
 ghost use Rattle.xml.specs.Escaping.{nine, replacement, piece, escaped};
 ghost use Rattle.xml.specs.Marked.{marked};
@@ -19,6 +19,7 @@ pub struct Chosen {
 }
 
 // The fixed bytes that stand for one of the nine.
+#[inline(always)]
 fn replacement_of(byte: u8) -> &'static [u8]
     requires { nine byte ≡ true }
     ensures { result.now ≡ replacement byte }
@@ -70,6 +71,20 @@ impl Chosen {
         len
     }
 
+    // How many bytes stay as they are, up to the first that is replaced.
+    fn run_len(self, value: &[u8]) -> usize
+        ensures within { result ≤ length value.now }
+        ensures stays { escaped (marked self.bits) (take result value.now) ≡ take result value.now }
+        ensures next { result < length value.now → marked self.bits (slice_index_or value.now result 0) ≡ true }
+    {
+        for (i, byte) in value.iter().enumerate() {
+            if self.has(*byte) {
+                return i;
+            }
+        }
+        value.len()
+    }
+
     /// Lays a value over `out` from `at` on, each of these bytes replaced, and answers where it ends. What stands between two
     /// of them is laid as one run.
     // Not inlined, so that what lays a value without them stays small.
@@ -79,15 +94,16 @@ impl Chosen {
         ensures end { result ≡ at + length (escaped (marked self.bits) value.now) }
         ensures bytes { out.new ≡ laid out.old at (escaped (marked self.bits) value.now) }
     {
+        let mut rest = value;
         let mut end = at;
-        let mut from = 0;
-        for (i, byte) in value.iter().enumerate() {
-            if self.has(*byte) {
-                end = lay(out, end, &value[from..i]);
-                end = lay(out, end, replacement_of(*byte));
-                from = i + 1;
-            }
+        loop {
+            let (run, behind) = rest.split_at(self.run_len(rest));
+            end = lay(out, end, run);
+            let [byte, behind @ ..] = behind else {
+                return end;
+            };
+            end = lay(out, end, replacement_of(*byte));
+            rest = behind;
         }
-        lay(out, end, &value[from..])
     }
 }

@@ -1,12 +1,14 @@
-use Rattle.std.specs.Prelude.{take}
-use Rattle.std.specs.List.{flat_map}
-use Rattle.xml.specs.Escaping.{piece}
+use Rattle.std.specs.Prelude.{◌≡◌, ℕ, List, ◌++◌, length}
+use Rattle.xml.specs.Escaping.{escaped}
 use Rattle.xml.specs.Marked.{marked}
-use Rattle.xml.proofs.Pieces.{Placed, Run}
+use Rattle.xml.proofs.Pieces.{Placed}
 use Rattle.xml.proofs.chosen.Chosen.lay.Given as goal
 
--- what stands before `from` is placed, and what comes then stays as it is
-abbrev pub invariant-loop-i : goal.invariant-loop-i
-invariant-loop-i l =
-    let f = piece (marked l.self.bits) in
-    Placed l.initial.out l.at (flat_map f (take l.from l.value)) l.end l.out × Run f l.value l.from l.i
+-- what is placed comes before what is left
+abbrev pub invariant-loop-behind : goal.invariant-loop-behind
+invariant-loop-behind l =
+    let p = marked l.self.bits in
+    (done : List ℕ) × (escaped p l.value ≡ done ++ escaped p l.rest) × Placed l.initial.out l.at done l.end l.out
+
+abbrev pub decreases-loop-behind : goal.decreases-loop-behind
+decreases-loop-behind l = length l.rest
