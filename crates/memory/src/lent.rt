@@ -103,7 +103,8 @@ impl Lent<'_, u8> {
         requires { self.now.used ≤ length self.now.all.now }
         ensures fits { result ≡ nat_le (self.now.used + length (P.bytes piece.now)) (length self.now.all.now) }
     {
-        piece.size() <= self.room()
+        let room = self.room();
+        piece.bound() <= room || piece.size() <= room
     }
 
     /// Lays a piece behind what is in use.

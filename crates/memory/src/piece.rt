@@ -13,6 +13,10 @@ pub trait Piece {
     fn size(&self) -> usize
         ensures value { result ≡ min (length (bytes self.now)) (2 ^ 64 - 1) };
 
+    /// No fewer than it has, told without a walk over it: where so many fit, it need not be measured.
+    fn bound(&self) -> usize
+        ensures value { min (length (bytes self.now)) (2 ^ 64 - 1) ≤ result };
+
     /// Lays it over `out` from `at` on, and answers where it ends.
     fn lay(&self, out: &mut [u8], at: usize) -> usize
         requires { at + length (bytes self.now) ≤ length out.old }
@@ -27,6 +31,10 @@ impl Piece for &[u8] {
         self.len()
     }
 
+    fn bound(&self) -> usize {
+        self.len()
+    }
+
     fn lay(&self, out: &mut [u8], at: usize) -> usize {
         lay(out, at, self)
     }
@@ -37,6 +45,10 @@ impl<const N: usize> Piece for [u8; N] {
     ghost bytes = { λ a. a };
 
     fn size(&self) -> usize {
+        self.len()
+    }
+
+    fn bound(&self) -> usize {
         self.len()
     }
 
@@ -59,6 +71,10 @@ impl Piece for Run {
         self.count
     }
 
+    fn bound(&self) -> usize {
+        self.count
+    }
+
     fn lay(&self, out: &mut [u8], at: usize) -> usize {
         fill(out, at, self.count, self.byte)
     }
@@ -71,6 +87,14 @@ impl<P: Piece> Piece for Option<P> {
         match self {
             Some(piece) => piece.size(),
             None => 0,
+        }
+    }
+
+    fn bound(&self) -> usize {
+        if let Some(piece) = self {
+            piece.bound()
+        } else {
+            0
         }
     }
 
@@ -87,6 +111,10 @@ impl<A: Piece, B: Piece> Piece for (A, B) {
 
     fn size(&self) -> usize {
         self.0.size().saturating_add(self.1.size())
+    }
+
+    fn bound(&self) -> usize {
+        self.0.bound().saturating_add(self.1.bound())
     }
 
     fn lay(&self, out: &mut [u8], at: usize) -> usize {

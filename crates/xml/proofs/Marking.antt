@@ -6,7 +6,7 @@ use Rattle.std.proofs.lemmas.List.Folds.{list_all_at}
 use Rattle.std.proofs.lemmas.Nat.Bits.{bit_at-zero, bit_at_set_same, bit_at_set_other, and_pow}
 use Rattle.std.proofs.lemmas.Nat.{one_shl, pow_pos}
 use Rattle.std.specs.Int.{bit_at}
-use Rattle.xml.specs.Escaping.{among, nine, replacement, piece, escaped}
+use Rattle.xml.specs.Escaping.{among, nine, replacement, escaped}
 use Rattle.xml.specs.Marked.{marked}
 
 pub unmarked : (b : ℕ) → marked 0 b ≡ false
@@ -84,34 +84,21 @@ below_64 i h = one (nat_lt x 64) refl
     one true e = ltb-true x 64 e
     one false e = absurd (both_ways true (list_all_at (λ b. nat_lt b 64) nines i 0 h e) refl)
 
--- the same bytes are chosen, so the same come out
-pub escaped_by : (p q : ℕ → Bool) → ((b : ℕ) → p b ≡ q b) → (bs : List ℕ) → escaped p bs ≡ escaped q bs
-escaped_by p q same [] = refl
-escaped_by p q same (b ∷ bs) = ap (λ t. cond t (replacement b) (b ∷ []) ++ escaped p bs) (same b) ∙ ap (λ l. piece q b ++ l) (escaped_by p q same bs)
-
-long : (b : ℕ) → 2 ≤ length (replacement b)
-long b = one (b == 60) (codes "&lt;") _ (omega arith) (one (b == 62) (codes "&gt;") _ (omega arith) (one (b == 39) (codes "&apos;") _ (omega arith) (one (b == 38) (codes "&amp;") _ (omega arith) (one (b == 34) (codes "&quot;") _ (omega arith) (one (b == 9) (codes "&#9;") _ (omega arith) (one (b == 10) (codes "&#10;") _ (omega arith) (one (b == 13) (codes "&#13;") _ (omega arith) (omega arith))))))))
+-- six bytes stand for one at most
+short : (b : ℕ) → length (replacement b) ≤ 6
+short b = one (b == 60) (codes "&lt;") _ (omega arith) (one (b == 62) (codes "&gt;") _ (omega arith) (one (b == 39) (codes "&apos;") _ (omega arith) (one (b == 38) (codes "&amp;") _ (omega arith) (one (b == 34) (codes "&quot;") _ (omega arith) (one (b == 9) (codes "&#9;") _ (omega arith) (one (b == 10) (codes "&#10;") _ (omega arith) (one (b == 13) (codes "&#13;") _ (omega arith) (omega arith))))))))
   where
-    one : (t : Bool) (xs ys : List ℕ) → 2 ≤ length xs → 2 ≤ length ys → 2 ≤ length (cond t xs ys)
+    one : (t : Bool) (xs ys : List ℕ) → length xs ≤ 6 → length ys ≤ 6 → length (cond t xs ys) ≤ 6
     one true xs ys h k = h
     one false xs ys h k = k
 
--- no value gets shorter, and one that stays as long stays as it is
-no_shorter : (p : ℕ → Bool) (bs : List ℕ) → length bs ≤ length (escaped p bs)
-no_shorter p [] = omega arith
-no_shorter p (b ∷ bs) = one (p b) (no_shorter p bs)
+pub at_most : (p : ℕ → Bool) (bs : List ℕ) → length (escaped p bs) ≤ length bs * 6
+at_most p [] = omega arith
+at_most p (b ∷ bs) = one (p b) (at_most p bs)
   where
-    one : (t : Bool) → length bs ≤ length (escaped p bs) → length (b ∷ bs) ≤ length (cond t (replacement b) (b ∷ []) ++ escaped p bs)
-    one true h = omega (arith, h, long b, length-append (replacement b) (escaped p bs))
+    one : (t : Bool) → length (escaped p bs) ≤ length bs * 6 → length (cond t (replacement b) (b ∷ []) ++ escaped p bs) ≤ length (b ∷ bs) * 6
+    one true h = omega (arith, h, short b, length-append (replacement b) (escaped p bs))
     one false h = omega (arith, h)
-
-pub as_long : (p : ℕ → Bool) (bs : List ℕ) → length (escaped p bs) ≡ length bs → escaped p bs ≡ bs
-as_long p [] h = refl
-as_long p (b ∷ bs) h = one (p b) h (as_long p bs)
-  where
-    one : (t : Bool) → length (cond t (replacement b) (b ∷ []) ++ escaped p bs) ≡ length (b ∷ bs) → (length (escaped p bs) ≡ length bs → escaped p bs ≡ bs) → cond t (replacement b) (b ∷ []) ++ escaped p bs ≡ b ∷ bs
-    one true h rest = absurd (omega (arith, h, long b, no_shorter p bs, length-append (replacement b) (escaped p bs)))
-    one false h rest = ap (λ l. b ∷ l) (rest (omega (arith, h)))
 
 -- the test of one bit
 pub bit_tests : (bits k : ℕ) → k < 64 → not (nat_eq (bit_and bits (1 * 2 ^ k % 2 ^ 64)) 0) ≡ marked bits k

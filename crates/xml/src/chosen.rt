@@ -11,6 +11,9 @@ use memory::lay;
 // The bytes that have a replacement; all are below 64.
 const NINE: [u8; 9] = *b"<>'&\"\t\n\r ";
 
+/// How many bytes stand for one at most.
+pub const LONGEST: usize = 6;
+
 /// A set of bytes that have a replacement, one bit for each.
 #[derive(Clone, Copy, PartialEq, Eq, Debug)]
 pub struct Chosen {
@@ -87,8 +90,6 @@ impl Chosen {
 
     /// Lays a value over `out` from `at` on, each of these bytes replaced, and answers where it ends. What stands between two
     /// of them is laid as one run.
-    // Not inlined, so that what lays a value without them stays small.
-    #[inline(never)]
     pub fn lay(self, value: &[u8], out: &mut [u8], at: usize) -> usize
         requires { at + length (escaped (marked self.bits) value.now) ≤ length out.old }
         ensures end { result ≡ at + length (escaped (marked self.bits) value.now) }

@@ -3,11 +3,10 @@ ghost use Rattle.std.specs.Prelude.{◌≡◌, ℕ, ◌+◌, ◌-◌, ◌^◌, �
 ghost use Rattle.xml.specs.declared.escape.Use.{Use};
 ghost use Rattle.xml.specs.Escaping.{nine, asked, added, level_chooses, escaped};
 ghost use Rattle.xml.specs.Back.{Writes, Escapes};
-ghost use Rattle.xml.specs.Marked.{marked};
 ghost use Rattle.xml.specs.Levels.{level_within, level_enough};
 
-use crate::chosen::Chosen;
-use memory::{Piece, lay};
+use crate::chosen::{Chosen, LONGEST};
+use memory::Piece;
 use refusal::Refusal;
 
 /// What a string is written for.
@@ -90,51 +89,42 @@ pub struct Unescaped<'a, R> {
     pub rule: &'a R,
 }
 
-impl<'a, R: EscapeRule> Unescaped<'a, R> {
+impl<'a, R> Unescaped<'a, R> {
     /// The same, written for a use.
     pub fn escaped(self, target: Use) -> Escaped<'a, R>
         ensures value { result.value.now ≡ self.entry.value.now }
         ensures rule { result.rule.now ≡ self.entry.rule.now }
         ensures target { result.target ≡ target }
     {
-        let chosen = Chosen::by(self.rule, target);
         Escaped {
             value: self.value,
             rule: self.rule,
             target,
-            chosen,
-            size: chosen.size_of(self.value),
         }
     }
 }
 
 /// A value as it is written for a use: each byte replaced that the rule chooses.
-// Its size is counted once, where it is made, since it is asked for before it is laid.
-#[derive(Drop)]
-pub struct Escaped<'a, R: EscapeRule> {
+#[derive_where(Clone, Copy)]
+pub struct Escaped<'a, R> {
     pub value: &'a [u8],
     pub rule: &'a R,
     pub target: Use,
-    chosen: Chosen,
-    size: usize,
-    ghost marks: { (b : ℕ) → marked chosen.bits b ≡ R.chooses rule.now target b },
-    ghost measured: { size ≡ min (length (escaped (marked chosen.bits) value.now)) (2 ^ 64 - 1) },
 }
 
 impl<R: EscapeRule> Piece for Escaped<'_, R> {
     ghost bytes = { λ e. escaped (R.chooses e.rule.now e.target) e.value.now };
 
     fn size(&self) -> usize {
-        self.size
+        Chosen::by(self.rule, self.target).size_of(self.value)
     }
 
-    #[inline(always)]
+    fn bound(&self) -> usize {
+        self.value.len().saturating_mul(LONGEST)
+    }
+
     fn lay(&self, out: &mut [u8], at: usize) -> usize {
-        if self.size == self.value.len() {
-            lay(out, at, self.value)
-        } else {
-            self.chosen.lay(self.value, out, at)
-        }
+        Chosen::by(self.rule, self.target).lay(self.value, out, at)
     }
 }
 
@@ -143,7 +133,11 @@ impl<R: EscapeRule> Piece for Escaped<'_, R> {
 pub fn escaped_len<R: EscapeRule>(value: &[u8], rule: &R, target: Use) -> usize
     ensures value { result ≡ min (length (escaped (R.chooses rule.now target) value.now)) (2 ^ 64 - 1) }
 {
-    let escaped = Unescaped { value, rule }.escaped(target);
+    let escaped = Escaped {
+        value,
+        rule,
+        target,
+    };
     escaped.size()
 }
 
@@ -159,7 +153,11 @@ pub fn escape_into<R: EscapeRule>(
 ) -> Result<usize, Refusal>
     ensures escapes { Escapes target (R.chooses rule.now target) value.now at result out.old out.new }
 {
-    let escaped = Unescaped { value, rule }.escaped(target);
+    let escaped = Escaped {
+        value,
+        rule,
+        target,
+    };
     if out.len() < at.saturating_add(escaped.size()) {
         return Err(Refusal::Stage);
     }
