@@ -90,6 +90,8 @@ impl Chosen {
 
     /// Lays a value over `out` from `at` on, each of these bytes replaced, and answers where it ends. What stands between two
     /// of them is laid as one run.
+    // Not inlined, while what calls it is: so a piece that holds a value stays small.
+    #[inline(never)]
     pub fn lay(self, value: &[u8], out: &mut [u8], at: usize) -> usize
         requires { at + length (escaped (marked self.bits) value.now) ≤ length out.old }
         ensures end { result ≡ at + length (escaped (marked self.bits) value.now) }

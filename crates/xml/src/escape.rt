@@ -123,6 +123,7 @@ impl<R: EscapeRule> Piece for Escaped<'_, R> {
         self.value.len().saturating_mul(LONGEST)
     }
 
+    #[inline(always)]
     fn lay(&self, out: &mut [u8], at: usize) -> usize {
         Chosen::by(self.rule, self.target).lay(self.value, out, at)
     }
