@@ -18,10 +18,10 @@ use Rattle.engine.specs.Memory.{Mem, Safe, in_tag, placed, popped}
 use Rattle.engine.specs.Lays.{IsString, Lays, Beyond, setting, Told, Does}
 use Rattle.engine.proofs.Fronts.{front_as, past_same, past_set}
 use Rattle.engine.proofs.Tags.{Tag, tag_grows, tag_past}
+use Rattle.engine.proofs.Begins.{lays_placed}
 use Rattle.engine.proofs.Telling.{told_small}
 use Rattle.engine.proofs.Spots.{on_attribute_item}
 use Rattle.nests.proofs.Leaving.{front_pop, end_clear, end_small}
-use Rattle.nests.proofs.Pushing.{lays_placed}
 use Rattle.attributes.specs.Inserts.{Inserts}
 use Rattle.attributes.proofs.Quotes.{quote_tag, quote_depth, quote_full, inserts_told, holds_attribute, stage_attribute}
 use Rattle.attributes.proofs.Standing.{several_frame}

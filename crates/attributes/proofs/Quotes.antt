@@ -17,8 +17,8 @@ use Rattle.engine.specs.Memory.{Mem, Safe, in_tag, placed}
 use Rattle.engine.specs.Lays.{Front, Nested, outer_stacks, Holds, Lays, Beyond, setting, Told}
 use Rattle.engine.proofs.Fronts.{front_length, front_as, past_same}
 use Rattle.engine.proofs.Tags.{tag_end_more, tag_end_closed, Tag, tag_grows, tag_past, tag_frames_past}
+use Rattle.engine.proofs.Begins.{lays_placed}
 use Rattle.engine.proofs.Telling.{Clear, Small, told_small, told_small_full}
-use Rattle.nests.proofs.Pushing.{lays_placed}
 use Rattle.attributes.specs.Inserts.{Inserts}
 
 -- the open tag with what stands of the attribute

@@ -18,9 +18,10 @@ use Rattle.engine.specs.Memory.{Mem, Safe, in_tag, pushed}
 use Rattle.engine.specs.Lays.{IsString, setting, Told, Does}
 use Rattle.engine.proofs.Fronts.{front_as, front_push}
 use Rattle.engine.proofs.Tags.{Tag}
+use Rattle.engine.proofs.Begins.{lays_placed}
 use Rattle.engine.proofs.Spots.{on_attribute}
 use Rattle.nests.specs.Frames.{Pushes}
-use Rattle.nests.proofs.Pushing.{lays_placed, row_opens}
+use Rattle.nests.proofs.Pushing.{row_opens}
 use Rattle.nests.proofs.Rowing.{pushes_told}
 use Rattle.attributes.specs.Inserts.{Inserts}
 use Rattle.attributes.proofs.Quotes.{inserts_told, holds_attribute, stage_attribute}

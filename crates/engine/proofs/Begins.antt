@@ -1,20 +1,24 @@
 -- Calls that bring a name or open a record: their answer from what the code's step says it did. Assumes nothing.
-use Rattle.std.proofs.Common.{◌≡◌, ℕ, ◌+◌, ◌<◌, ◌≤◌, true, false, List, [], ◌++◌, length, None, Ok, Err, Result, sym, refl, ap, ◌∙◌, subst, inl, inr, ⊎_elim, arith}
+use Rattle.std.proofs.Common.{◌≡◌, ℕ, ◌+◌, ◌<◌, ◌≤◌, Bool, true, false, List, [], ◌∷◌, ◌++◌, length, None, Ok, Err, Result, sym, refl, ap, ◌∙◌, subst, inl, inr, ⊎_elim, arith}
 use Rattle.refusal.specs.declared.Refusal.{Refusal}
 use Rattle.refusal.specs.declared.Refusal.TheVariants.{Stage}
 use Rattle.refusal.specs.Refusals.{offset}
 use Rattle.xml.specs.Names.{name_fault}
+use Rattle.style.specs.declared.result.WriteResult.{WriteResult}
+use Rattle.model.specs.declared.frame.Frame.{Frame}
+use Rattle.model.specs.declared.frame.Kind.{Kind}
+use Rattle.model.specs.declared.place.Place.{Place}
 use Rattle.model.specs.declared.place.Place.TheVariants.{Element}
 use Rattle.model.specs.Calls.{Call}
-use Rattle.model.specs.Model.{State}
+use Rattle.model.specs.Model.{Level, Row, Outer, element, content, State, between, inside, place, stack}
 use Rattle.model.specs.Layout.{stage}
 use Rattle.model.specs.Frames.{new_frame}
 use Rattle.model.specs.Grounds.{out_of_order, ill_formed, misshapen, runs_on, misnamed}
 use Rattle.model.specs.Table.{verdict, next, name_brought, takes_frame, handed}
-use Rattle.engine.specs.Memory.{Mem, Safe, name_put, appended, placed}
-use Rattle.engine.specs.Lays.{Holds, Lays, Beyond, setting, Told}
+use Rattle.engine.specs.Memory.{Buf, Mem, Safe, grown, with_names, name_put, appended, placed}
+use Rattle.engine.specs.Lays.{row_stacks, outer_stacks, Holds, Lays, Past, Beyond, setting, Told}
 use Rattle.engine.specs.Opening.{FrameFree, Named, Awaits, begun, Opens}
-use Rattle.engine.proofs.Fronts.{past_same, past_grown, past_set}
+use Rattle.engine.proofs.Fronts.{front_length, front_grown, begins_self, begins_more, nested_rest, past_same, past_grown, past_set}
 use Rattle.engine.proofs.Telling.{Clear, told_name, told_stack, told_depth, told_stage, told_ok, depth_is_free, depth_unasked, sink_unasked}
 
 -- a call that brings this name to the name stack, and has passed the first four rows
@@ -27,15 +31,47 @@ pub record Names (c : Call) (m : State) (n : List ℕ) (w : Mem) : Type 0 where
   pub brought : name_brought c m ≡ n
   pub handed : handed w.indentation c m ≡ []
 
-pub beyond_begun : (w : Mem) (n bs : List ℕ) (from : ℕ) → w.names.used + length n ≤ length w.names.all → w.stage.used + length bs ≤ length w.stage.all → Beyond w (begun from (name_put n (appended bs w)))
-beyond_begun w n bs from room fits =
+-- a record that opens changes nothing past the parts in use, nor do names that do not
+pub beyond_begun : (w : Mem) (b : Buf ℕ) (bs : List ℕ) (from : ℕ) → Past w.names b → w.stage.used + length bs ≤ length w.stage.all → Beyond w (begun from (with_names (appended bs w) b))
+beyond_begun w b bs from names fits =
     record {
       stage = past_grown w.stage bs fits;
-      names = past_grown w.names n room;
-      frames = past_set w.frames w.frames.used (w.frames.used + 1) (new_frame (w.stage.used + length bs) (w.names.used + length n) from) (omega arith);
+      names = names;
+      frames = past_set w.frames w.frames.used (w.frames.used + 1) (new_frame (w.stage.used + length bs) b.used from) (omega arith);
       form = refl;
       indentation = refl;
     }
+
+-- two frames of a kind are the same where their flag and numbers are
+abbrev pub framed : Kind → WriteResult → Bool → ℕ → ℕ → ℕ → Frame
+framed kind last flag tag keep from = record { kind = kind; flag = flag; last = last; tag = tag; keep = keep; from = from }
+
+pub same_frame : {k : Kind} {r : WriteResult} {g h : Bool} {t s j i a b : ℕ} → g ≡ h → t ≡ s → j ≡ i → a ≡ b → framed k r g t j a ≡ framed k r h s i b
+same_frame p q x y = cc
+
+-- the place is set last
+pub lays_placed : (m : State) (p : Place) (w : Mem) → p ≡ place m → Holds m w → Lays m (placed p w)
+lays_placed m p w e h = record { holds = record { stage = h.stage; names = h.names; frames = h.frames; records = h.records; wordy = h.wordy; fit = h.fit }; place = e }
+
+-- at a value of a field, no row is open in the record
+pub holds_child : (p : Bool) (l : Level) (ls : List Outer) (w : Mem) → Holds (between l ls) w → Holds (inside (content p) [] l ls) w
+holds_child p l ls w h = record { stage = h.stage; names = h.names; frames = h.frames; records = h.records; wordy = h.wordy; fit = (begins_self (l.under ++ l.name), h.fit) }
+
+-- the name of an element that is still to come
+pub holds_name : (p : Bool) (rs : List Row) (l : Level) (ls : List Outer) (w : Mem) (n : List ℕ) → w.names.used + length n ≤ length w.names.all → Holds (inside (content p) rs l ls) w → Holds (inside (element (stack rs l) n) rs l ls) (name_put n w)
+holds_name p rs l ls w n fits h =
+    record {
+      stage = h.stage;
+      names = front_grown w.names (stack rs l) n fits h.names;
+      frames = h.frames;
+      records = h.records;
+      wordy = h.wordy;
+      fit = nested_rest (stack rs l ++ n) (stack rs l) (row_stacks rs ++ ((l.under ++ l.name) ∷ outer_stacks ls)) (begins_more (stack rs l) n) h.fit;
+    }
+
+pub lays_element : (p : Bool) (rs : List Row) (l : Level) (ls : List Outer) (w : Mem) (n : List ℕ) → w.names.used + length n ≤ length w.names.all → Holds (inside (content p) rs l ls) w → Lays (inside (element (stack rs l) n) rs l ls) (placed (Element w.names.used) (name_put n w))
+lays_element p rs l ls w n fits h =
+    lays_placed (inside (element (stack rs l) n) rs l ls) (Element w.names.used) (name_put n w) (ap Element (front_length w.names (stack rs l) h.names)) (holds_name p rs l ls w n fits h)
 
 module _ (room : ℕ) (c : Call) (m : State) (n : List ℕ) (w : Mem) (k : Names c m n w) (safe : Safe w) (h : Holds m w) where
   pub names_clear : name_fault n ≡ None → Clear c m
@@ -73,7 +109,7 @@ module _ (room : ℕ) (c : Call) (m : State) (n : List ℕ) (w : Mem) (k : Names
   pub opens_told : (lead : List ℕ) (r : Result (Unit {0}) Refusal) (v : Mem) → takes_frame c ≡ true → (w.names.used + length n ≤ length w.names.all → length (stage w.indentation (next w.form c m)) ≡ w.stage.used + length (lead ++ n)) → (w.names.used + length n ≤ length w.names.all → w.frames.used < length w.frames.all → w.stage.used + length (lead ++ n) ≤ length w.stage.all → Lays (next w.form c m) (begun w.names.used (name_put n (appended (lead ++ n) w)))) → Opens r lead n w v → Told (verdict (setting w) room c m) r w v
   opens_told lead (Ok x) v t size lay o =
       told_ok w room c m v (names_clear o.0.0) safe h (names_fit o.0.1) (depth_is_free w room c m safe h.frames o.1) (sink_unasked w room c m k.handed)
-      (subst (λ y. Lays (next w.form c m) y) (sym o.3) (lay o.0.1 o.1 o.2)) (subst (λ y. Beyond w y) (sym o.3) (beyond_begun w n (lead ++ n) w.names.used o.0.1 o.2))
+      (subst (λ y. Lays (next w.form c m) y) (sym o.3) (lay o.0.1 o.1 o.2)) (subst (λ y. Beyond w y) (sym o.3) (beyond_begun w (grown w.names n) (lead ++ n) w.names.used (past_grown w.names n o.0.1) o.2))
   opens_told lead (Err e) v t size lay o =
       subst (λ y. Told (verdict (setting w) room c m) (Err e) w y) (sym o.0)
       (⊎_elim (λ f. named_told e f) (λ y. ⊎_elim (λ d. unframed_told e t y.0 d) (λ s. unstaged_told (lead ++ n) e y.0 (size y.0.1) s) y.1) o.1)

@@ -7,7 +7,7 @@ use Rattle.memory.specs.Opened.{opened}
 use Rattle.memory.proofs.Laying.{take-laid, drop-laid, length-laid}
 use Rattle.memory.proofs.Opening.{take-opened, drop-opened, length-opened}
 use Rattle.engine.specs.Memory.{Buf, grown}
-use Rattle.engine.specs.Lays.{Front, Past, Begins}
+use Rattle.engine.specs.Lays.{Front, Past, Begins, Nested}
 
 pub front_length : {A : Type 0} (b : Buf A) (xs : List A) → Front b xs → b.used ≡ length xs
 front_length b xs f = sym (length-take-le b.used b.all f.fits) ∙ ap length f.is
@@ -77,6 +77,17 @@ begins_self xs = take_all (length xs) xs (omega arith)
 
 pub begins_more : (xs ys : List ℕ) → Begins xs (xs ++ ys)
 begins_more xs ys = take_at xs ys (length xs) refl
+
+pub begins_within : (zs ys xs : List ℕ) → Begins zs ys → Begins ys xs → Begins zs xs
+begins_within zs ys xs p q =
+    let n = length-take (length zs) ys in
+    let l = ap length p in
+    sym (take-take (length zs) (length ys) xs (omega (arith, n, l))) ∙ ap (take (length zs)) q ∙ p
+
+-- what keeps the first of nested stacks keeps the rest
+pub nested_rest : (xs ys : List ℕ) (rest : List (List ℕ)) → Begins ys xs → Nested ys rest → Nested xs rest
+nested_rest xs ys [] b n = tt
+nested_rest xs ys (zs ∷ rest) b n = (begins_within zs ys xs n.0 b, n.1)
 
 pub past_same : {A : Type 0} (b : Buf A) → Past b b
 past_same b = record { size = refl; past = refl }

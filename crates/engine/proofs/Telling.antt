@@ -1,14 +1,16 @@
 -- The verdict's rows one by one: what a call answers where a row is the first to apply, and where none does. Assumes nothing.
-use Rattle.std.proofs.Common.{◌≡◌, ℕ, ◌+◌, ◌-◌, ◌<◌, ◌≤◌, min, Bool, true, false, leb, [], ◌∷◌, length, Some, None, Ok, Err, Option, sym, refl, ap, subst, arith}
-use Rattle.std.proofs.lemmas.Bool.{lt-ltb, le-ltb, le-leb, lt-leb, and_left, and_right, and_from}
+use Rattle.std.proofs.Common.{◌≡◌, ℕ, ◌+◌, ◌-◌, ◌<◌, ◌≤◌, min, Bool, true, false, not, leb, [], ◌∷◌, length, Some, None, Ok, Err, Option, sym, refl, ap, subst, arith}
+use Rattle.std.proofs.lemmas.Str.{IsUtf8-nil}
+use Rattle.std.proofs.lemmas.Bool.{not_from_true, lt-ltb, le-ltb, le-leb, lt-leb, and_left, and_right, and_from}
 use Rattle.refusal.specs.declared.Refusal.{Refusal}
 use Rattle.refusal.specs.declared.Refusal.TheVariants.{Order, Bytes as BytesAt, Shape, RunOn, Name as NameAt, Stack, Depth, Stage, Sink}
-use Rattle.model.specs.Strings.{whole}
+use Rattle.model.specs.Strings.{whole, utf8}
 use Rattle.model.specs.Calls.{Call}
 use Rattle.model.specs.Model.{State}
 use Rattle.model.specs.Layout.{stage, names, frames}
 use Rattle.model.specs.Grounds.{out_of_order, ill_formed, string_of, misshapen, runs_on, misnamed}
 use Rattle.model.specs.Table.{Verdict, refuse, accept, verdict, judged, first, when, fault_at, next, name_brought, takes_frame, handed, stack_full, too_deep, stage_full, sink_full}
+use Rattle.model.proofs.Spelling.{utf8_from}
 use Rattle.engine.specs.Memory.{Mem, Safe}
 use Rattle.engine.specs.Lays.{Front, Holds, Lays, Beyond, setting, Told}
 use Rattle.engine.proofs.Fronts.{front_length}
@@ -20,6 +22,13 @@ pub record Clear (c : Call) (m : State) : Type 0 where
   pub shape : misshapen c m ≡ false
   pub text : runs_on c m ≡ false
   pub name : misnamed c m ≡ None
+
+-- no bytes are well-formed
+pub well_formed_none : utf8 [] ≡ true
+well_formed_none = utf8_from [] IsUtf8-nil
+
+pub no_bytes : not (utf8 []) ≡ false
+no_bytes = not_from_true (utf8 []) well_formed_none
 
 -- the call brings no name, takes no frame, and hands nothing to the sink
 pub record Small (c : Call) (m : State) (w : Mem) : Type 0 where

@@ -1,34 +1,25 @@
 -- A field begins whose value goes among the children. Assumes nothing.
-use Rattle.std.proofs.Common.{◌≡◌, ℕ, ◌+◌, ◌≤◌, true, false, cond, List, [], ◌∷◌, ◌++◌, length, None, Ok, Result, sym, refl, ap, ◌∙◌, subst, arith}
+use Rattle.std.proofs.Common.{◌≡◌, ℕ, true, false, cond, List, [], ◌∷◌, None, Ok, Result, sym, refl, ap, ◌∙◌, subst, arith}
 use Rattle.std.proofs.lemmas.Grind.{common_steps}
 use Rattle.std.proofs.lemmas.Bool.{not_from_true, ne_eqb}
 use Rattle.refusal.specs.declared.Refusal.{Refusal}
 use Rattle.model.specs.declared.place.Place.TheVariants.{Field, Element, Content, Text}
 use Rattle.model.specs.Strings.{utf8}
 use Rattle.model.specs.Calls.{key_attribute, key_text, key_value, key_element, key, is_text_name, is_value_name, call_field}
-use Rattle.model.specs.Model.{Level, Outer, element, between, inside, stack}
+use Rattle.model.specs.Model.{Level, Outer, between}
 use Rattle.model.specs.Step.{field}
 use Rattle.model.specs.Grounds.{key_fault}
 use Rattle.model.specs.Table.{verdict, key_name}
 use Rattle.engine.specs.Memory.{Mem, Safe, placed, name_put}
-use Rattle.engine.specs.Lays.{Lays, Holds, setting, Told, Does}
+use Rattle.engine.specs.Lays.{Lays, setting, Told, Does}
 use Rattle.engine.specs.Opening.{Awaits}
-use Rattle.engine.proofs.Fronts.{front_length, front_grown, begins_more}
 use Rattle.engine.proofs.Spots.{on_field}
 use Rattle.engine.proofs.Telling.{Clear}
-use Rattle.engine.proofs.Begins.{awaits_told}
+use Rattle.engine.proofs.Begins.{holds_child, lays_element, awaits_told}
 
 -- only a name can still be at fault
 pub key_clear : (k : List ℕ) (l : Level) (ls : List Outer) → utf8 k ≡ true → key_fault (key k) ≡ None → Clear (call_field k) (between l ls)
 key_clear k l ls fine n = record { order = refl; bytes = not_from_true (utf8 k) fine; shape = refl; text = refl; name = n }
-
--- to the element place, with the name on the name stack
-lays_element : (n : List ℕ) (l : Level) (ls : List Outer) (w : Mem) → w.names.used + length n ≤ length w.names.all → Holds (between l ls) w → Lays (inside (element (stack [] l) n) [] l ls) (placed (Element w.names.used) (name_put n w))
-lays_element n l ls w room h =
-    record {
-      holds = record { stage = h.stage; names = front_grown w.names (stack [] l) n room h.names; frames = h.frames; records = h.records; wordy = h.wordy; fit = (begins_more (l.under ++ l.name) n, h.fit) };
-      place = ap (λ x. Element x) (front_length w.names (stack [] l) h.names);
-    }
 
 -- a key that does not begin with '@'
 plain_key : (k : List ℕ) → ((rest : List ℕ) → k ≡ 64 ∷ rest → ⊥) → key k ≡ cond (is_text_name k) key_text (cond (is_value_name k) key_value (key_element k))
@@ -52,4 +43,4 @@ module _ (k : List ℕ) (room : ℕ) (w : Mem) (safe : Safe w) (at : w.place ≡
       (λ l ls y.
       awaits_told room (call_field k) (between l ls) k w
       (record { order = refl; bytes = not_from_true (utf8 k) fine; shape = refl; text = refl; fault = ap key_fault e; brought = ap key_name e; handed = refl }) safe y.holds r u refl
-      (λ fits. subst (λ z. Lays (field z l ls) (placed (Element w.names.used) (name_put k w))) (sym e) (lays_element k l ls w fits y.holds)) a)
+      (λ fits. subst (λ z. Lays (field z l ls) (placed (Element w.names.used) (name_put k w))) (sym e) (lays_element true [] l ls w k fits (holds_child true l ls w y.holds))) a)

@@ -1,46 +1,27 @@
 -- A row or a list ends: its frame is free again, and the thing around it settles. Assumes nothing.
-use Rattle.std.proofs.Common.{◌≡◌, ℕ, ◌-◌, ◌<◌, true, false, not, ◌⊎◌, List, [], ◌∷◌, ◌++◌, length, take, Some, Ok, Err, sym, refl, ap, ◌∙◌, subst, append_assoc, inl, inr, ⊎_elim, arith}
-use Rattle.std.proofs.lemmas.Str.{IsUtf8-nil}
-use Rattle.std.proofs.lemmas.Bool.{not_from_true}
-use Rattle.std.proofs.lemmas.List.{length-append, length_push, length-take, append-nil, take_at, take-take}
+use Rattle.std.proofs.Common.{◌≡◌, ℕ, ◌-◌, ◌<◌, true, false, ◌⊎◌, List, [], ◌∷◌, ◌++◌, length, Some, Ok, Err, sym, refl, ap, ◌∙◌, subst, append_assoc, inl, inr, ⊎_elim, arith}
+use Rattle.std.proofs.lemmas.List.{length-append, length_push, append-nil, take_at}
 use Rattle.refusal.specs.declared.Refusal.TheVariants.{Order}
 use Rattle.model.specs.declared.frame.Frame.{Frame}
 use Rattle.model.specs.declared.frame.Kind.{Kind}
-use Rattle.model.specs.Strings.{utf8}
 use Rattle.model.specs.Calls.{call_end}
 use Rattle.model.specs.Model.{Level, Row, named_row, content_row, Outer, Spot, element, content, text_spot, simple, words, single, several, State, idle, between, inside, quote, complete, spot_place, place}
 use Rattle.model.specs.Step.{settle, leave}
 use Rattle.model.specs.Layout.{frames, row_frame, row_frames, record_frame, outer_frames, list_frame, spot_frames, spot_names}
 use Rattle.model.specs.Grounds.{innermost_row, out_of_order}
 use Rattle.model.specs.Table.{verdict, or_stay}
-use Rattle.model.proofs.Spelling.{utf8_from}
 use Rattle.engine.specs.Memory.{Buf, Mem, Safe, popped, settled, top_frame}
-use Rattle.engine.specs.Lays.{Front, Begins, Nested, row_stack, row_stacks, outer_stacks, Holds, Lays, Beyond, setting, Told, Does}
-use Rattle.engine.proofs.Fronts.{front_length, front_as, front_cut, past_same, past_cut, past_set}
+use Rattle.engine.specs.Lays.{Front, Nested, row_stack, row_stacks, outer_stacks, Holds, Lays, Beyond, setting, Told, Does}
+use Rattle.engine.proofs.Fronts.{nested_rest, front_length, front_as, front_cut, past_same, past_cut, past_set}
 use Rattle.engine.proofs.Settling.{lays_settle, top_is}
 use Rattle.engine.proofs.Tops.{top_is_innermost}
-use Rattle.engine.proofs.Telling.{Clear, Small, told_small, told_order}
+use Rattle.engine.proofs.Telling.{no_bytes, Clear, Small, told_small, told_order}
 use Rattle.nests.specs.Frames.{row_kind}
 
 -- one entry less is in use
 pub front_pop : {A : Type 0} (b : Buf A) (xs : List A) (f : A) → Front b (xs ++ (f ∷ [])) → Front (record { all = b.all; used = b.used - 1 }) xs
 front_pop b xs f h =
     front_cut b (xs ++ (f ∷ [])) xs (b.used - 1) (omega (arith, front_length b (xs ++ (f ∷ [])) h, length_push xs f)) (take_at xs (f ∷ []) (length xs) refl) h
-
-pub begins_within : (zs ys xs : List ℕ) → Begins zs ys → Begins ys xs → Begins zs xs
-begins_within zs ys xs p q =
-    let n = length-take (length zs) ys in
-    let l = ap length p in
-    sym (take-take (length zs) (length ys) xs (omega (arith, n, l))) ∙ ap (take (length zs)) q ∙ p
-
--- what keeps the first of nested stacks keeps the rest
-pub nested_rest : (xs ys : List ℕ) (rest : List (List ℕ)) → Begins ys xs → Nested ys rest → Nested xs rest
-nested_rest xs ys [] b n = tt
-nested_rest xs ys (zs ∷ rest) b n = (begins_within zs ys xs n.0 b, n.1)
-
--- no bytes are well-formed
-pub no_bytes : not (utf8 []) ≡ false
-no_bytes = not_from_true (utf8 []) (utf8_from [] IsUtf8-nil)
 
 -- an end brings nothing
 pub end_clear : (m : State) → out_of_order call_end m ≡ false → Clear call_end m

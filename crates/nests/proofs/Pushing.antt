@@ -5,19 +5,14 @@ use Rattle.refusal.specs.declared.Refusal.TheVariants.{Depth}
 use Rattle.model.specs.declared.place.Place.{Place}
 use Rattle.model.specs.declared.frame.Frame.{Frame}
 use Rattle.model.specs.Calls.{Call, call_value, val_row}
-use Rattle.model.specs.Model.{Level, Row, Outer, Spot, words, State, inside, stack, place}
+use Rattle.model.specs.Model.{Level, Row, Outer, Spot, words, State, inside, stack}
 use Rattle.model.specs.Layout.{frames as frames_of, row_frame, row_frames, record_frame, outer_frames, list_frame, spot_frames, spot_names}
 use Rattle.model.specs.Grounds.{out_of_order, misshapen, misnamed}
 use Rattle.model.specs.Table.{verdict, next, name_brought, takes_frame, handed}
 use Rattle.engine.specs.Memory.{Buf, Mem, Safe, grown, pushed, placed, with_names, name_put}
 use Rattle.engine.specs.Lays.{Front, Begins, Nested, row_stack, row_stacks, outer_stacks, Holds, Lays, Past, Beyond, setting, Told}
 use Rattle.engine.proofs.Fronts.{front_as, front_push, past_same, past_grown, past_set}
-use Rattle.engine.proofs.Telling.{Clear, told_ok, told_depth, depth_is_free, sink_unasked}
-use Rattle.nests.proofs.Leaving.{no_bytes}
-
--- the place is set last
-pub lays_placed : (m : State) (p : Place) (w : Mem) → p ≡ place m → Holds m w → Lays m (placed p w)
-lays_placed m p w e h = record { holds = record { stage = h.stage; names = h.names; frames = h.frames; records = h.records; wordy = h.wordy; fit = h.fit }; place = e }
+use Rattle.engine.proofs.Telling.{no_bytes, Clear, told_ok, told_depth, depth_is_free, sink_unasked}
 
 -- one frame more is in use, that of a row or list in the innermost thing
 frames_taken : (g : Frame) (s : Spot) (rs : List Row) (l : Level) (ls : List Outer) (w : Mem) → spot_frames s ≡ [] → w.frames.used < length w.frames.all → Holds (inside s rs l ls) w → Front (pushed g w).frames (outer_frames w.indentation ls ++ (record_frame w.indentation l ls [] ∷ (row_frames rs ++ (g ∷ []))))

@@ -14,10 +14,11 @@ use Rattle.engine.specs.Memory.{Mem, Safe, pushed, placed, top_frame}
 use Rattle.engine.specs.Lays.{Holds, Lays, setting, Told, Does}
 use Rattle.engine.proofs.Fronts.{front_length, begins_self}
 use Rattle.engine.proofs.Tops.{top_flag}
+use Rattle.engine.proofs.Begins.{lays_placed, same_frame}
 use Rattle.engine.proofs.Spots.{on_place}
 use Rattle.model.specs.Frames.{named_frame, content_frame}
 use Rattle.nests.specs.Frames.{TakesList, Pushes}
-use Rattle.nests.proofs.Pushing.{lays_placed, Opens, row_opens, opens_deep, opens_ok, holds_row, holds_list}
+use Rattle.nests.proofs.Pushing.{Opens, row_opens, opens_deep, opens_ok, holds_row, holds_list}
 
 -- from what the step says it did
 pub pushes_told : (room : ℕ) (c : Call) (m : State) (w v : Mem) (r : Result (Unit {0}) Refusal) (f g : Frame) (p q : Place) → Opens c m w → Safe w → Holds m w → f ≡ g → p ≡ q → (w.frames.used < length w.frames.all → Lays (next w.form c m) (placed q (pushed g w))) → Pushes r f p w v → Told (verdict (setting w) room c m) r w v
@@ -25,12 +26,6 @@ pushes_told room c m w v (Ok x) f g p q o safe h e d lay y =
     opens_ok room c m w o safe h g q v y.0 (lay y.0) (y.1 ∙ ap (λ z. placed p (pushed z w)) e ∙ ap (λ z. placed z (pushed g w)) d)
 pushes_told room c m w v (Err x) f g p q o safe h e d lay y =
     subst (λ z. Told (verdict (setting w) room c m) (Err z) w v) (sym y.0) (subst (λ z. Told (verdict (setting w) room c m) (Err Depth) w z) (sym y.2) (opens_deep room c m w o safe h y.1))
-
-pub same_named : (g h : Bool) (k l a b : ℕ) → g ≡ h → k ≡ l → a ≡ b → named_frame g k a ≡ named_frame h l b
-same_named g h k l a b p q r = cc
-
-same_content : (g h : Bool) (k l : ℕ) → g ≡ h → k ≡ l → content_frame g k ≡ content_frame h l
-same_content g h k l p q = cc
 
 module _ (room : ℕ) (w v : Mem) (r : Result (Unit {0}) Refusal) (safe : Safe w) where
   -- what is to be shown of each state there
@@ -47,7 +42,7 @@ module _ (room : ℕ) (w v : Mem) (r : Result (Unit {0}) Refusal) (safe : Safe w
       let here = inside (element u n) rs l ls in
       let row = named_row u n f in
       pushes_told room (call_value val_row) here w v r (named_frame g w.names.used from) (row_frame row) (Element from) (Element (length u)) (row_opens here w refl refl refl refl) safe h
-      (same_named g f w.names.used (length (u ++ n)) from (length u) (e ∙ top_flag (element u n) rs l ls w refl h) (front_length w.names (u ++ n) h.names) d) (ap Element d)
+      (same_frame (e ∙ top_flag (element u n) rs l ls w refl h) refl (front_length w.names (u ++ n) h.names) d) (ap Element d)
       (λ free. lays_placed (inside (element u n) (row ∷ rs) l ls) (Element (length u)) (pushed (row_frame row) w) refl (holds_row (element u n) (element u n) row rs l ls w w.names refl refl free h h.names (begins_self (u ++ n)) h.fit)) y)
 
   -- at a content place
@@ -62,7 +57,7 @@ module _ (room : ℕ) (w v : Mem) (r : Result (Unit {0}) Refusal) (safe : Safe w
       let row = content_row t SensitiveNothing f in
       let then = content (not l.body.wordy) in
       pushes_told room (call_value val_row) here w v r (content_frame g w.names.used) (row_frame row) (Content (not w.wordy)) (Content (not l.body.wordy)) (row_opens here w refl refl refl refl) safe h
-      (same_content g f w.names.used (length t) (e ∙ top_flag (content p) rs l ls w refl h) (front_length w.names t h.names)) (ap (λ b. Content (not b)) h.wordy)
+      (same_frame (e ∙ top_flag (content p) rs l ls w refl h) refl (front_length w.names t h.names) refl) (ap (λ b. Content (not b)) h.wordy)
       (λ free. lays_placed (inside then (row ∷ rs) l ls) (Content (not l.body.wordy)) (pushed (row_frame row) w) refl (holds_row (content p) then row rs l ls w w.names refl refl free h h.names (begins_self t) h.fit)) y)
 
   -- a list, which is one text

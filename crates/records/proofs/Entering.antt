@@ -15,15 +15,13 @@ use Rattle.model.specs.Table.{verdict, next, value_opens}
 use Rattle.engine.specs.Memory.{Buf, Mem, Safe, Put, with_stage, name_put, pushed, appended}
 use Rattle.engine.specs.Lays.{Holds, Lays, Beyond, setting, Told, Does}
 use Rattle.engine.specs.Opening.{begun, Opens}
-use Rattle.engine.proofs.Begins.{Names, opens_told}
-use Rattle.engine.proofs.Fronts.{front_length, front_as, front_grown, front_push, past_same, past_grown, past_set}
+use Rattle.engine.proofs.Begins.{beyond_begun, same_frame, holds_name, Names, opens_told}
+use Rattle.engine.proofs.Fronts.{front_length, front_as, front_grown, front_push, past_same}
 use Rattle.engine.proofs.Telling.{Clear, told_stage, told_ok, depth_is_free, sink_unasked}
 use Rattle.engine.proofs.Spots.{on_element, on_content}
 use Rattle.rows.specs.Pieces.{lead_of, name_of}
-use Rattle.rows.proofs.Rooting.{same_new}
 use Rattle.rows.proofs.Tagging.{lead_is_start, name_is}
 use Rattle.records.specs.Names.{RecordValue}
-use Rattle.records.proofs.Naming.{holds_name}
 
 -- the bytes of a tag of this name that opens
 abbrev pub tag_start : Mem → List ℕ → List ℕ
@@ -60,7 +58,7 @@ module _ (u n : List ℕ) (rs : List Row) (l : Level) (ls : List Outer) (w : Mem
       let f = new_frame (w.stage.used + length bs) w.names.used from in
       let tag : w.stage.used + length (tag_start w n) ≡ length (tag_end w.indentation (new_level u n) (around rs l ls) []) =
       omega (arith, stage_opened, length-append (tag_end i (new_level u n) (around rs l ls) []) []) in
-      let frame = same_new (w.stage.used + length bs) (length (tag_end i (new_level u n) (around rs l ls) [])) w.names.used (length (u ++ n)) from (length u) tag (front_length w.names (u ++ n) h.names) d in
+      let frame : new_frame (w.stage.used + length bs) w.names.used from ≡ record_frame i (new_level u n) (around rs l ls) [] = same_frame refl tag (front_length w.names (u ++ n) h.names) d in
       let under = ap (λ z. outer_frames i ls ++ (record_frame i l ls [] ∷ z)) (append-nil (row_frames rs)) in
       record {
         holds = record {
@@ -74,16 +72,6 @@ module _ (u n : List ℕ) (rs : List Row) (l : Level) (ls : List Outer) (w : Mem
         };
         place = refl;
       }
-
-beyond_record : (w : Mem) (bs : List ℕ) (from : ℕ) → w.stage.used + length bs ≤ length w.stage.all → Beyond w (begun from (appended bs w))
-beyond_record w bs from fits =
-    record {
-      stage = past_grown w.stage bs fits;
-      names = past_same w.names;
-      frames = past_set w.frames w.frames.used (w.frames.used + 1) (new_frame (w.stage.used + length bs) w.names.used from) (omega arith);
-      form = refl;
-      indentation = refl;
-    }
 
 -- at an element place
 module _ (room : ℕ) (w : Mem) (from : ℕ) (q : List ℕ) (safe : Safe w) (at : w.place ≡ Element from) (ok : utf8 q ≡ true) where
@@ -113,7 +101,7 @@ module _ (room : ℕ) (w : Mem) (from : ℕ) (q : List ℕ) (safe : Safe w) (at 
         let opens : v ≡ begun from (appended (tag_start w n) w) = is ∙ ap (λ x. begun from (with_stage w x)) y.1 ∙ ap (λ x. begun from (appended (tag_start w x) w)) named in
         told_ok w room c here v (clear_there u n rs l ls) safe h (omega (arith, h.names.fits)) (depth_is_free w room c here safe h.frames free) (sink_unasked w room c here refl)
         (subst (λ x. Lays (between (new_level u n) (around rs l ls)) x) (sym opens) (lays_record u n rs l ls w h from d free fits))
-        (subst (λ x. Beyond w x) (sym opens) (beyond_record w (tag_start w n) from fits)))
+        (subst (λ x. Beyond w x) (sym opens) (beyond_begun w w.names (tag_start w n) from (past_same w.names) fits)))
 
 -- what both calls at a content place share
 pub record Enters (c : Value) (p : Bool) (n : List ℕ) (w : Mem) (rs : List Row) (l : Level) (ls : List Outer) : Type 0 where

@@ -1,5 +1,5 @@
 -- Values at a content place that bring a name: wrapped values and rows of variants. Assumes nothing.
-use Rattle.std.proofs.Common.{◌≡◌, ℕ, ◌+◌, ◌<◌, ◌≤◌, Bool, true, false, cond, not, ◌⊎◌, List, [], ◌∷◌, ◌++◌, length, Some, None, Ok, Err, Result, sym, refl, ap, ◌∙◌, subst, ⊎_elim}
+use Rattle.std.proofs.Common.{◌≡◌, ℕ, ◌+◌, ◌<◌, Bool, true, false, cond, not, ◌⊎◌, List, [], ◌∷◌, ◌++◌, length, Some, None, Ok, Err, Result, sym, refl, ap, ◌∙◌, subst, ⊎_elim}
 use Rattle.std.proofs.lemmas.Bool.{not_from_true, and_left, and_right}
 use Rattle.refusal.specs.declared.Refusal.{Refusal}
 use Rattle.xml.specs.Names.{name_fault}
@@ -13,29 +13,16 @@ use Rattle.model.specs.Frames.{named_frame}
 use Rattle.model.specs.Grounds.{ill_formed, value_string, no_content, is_text, content_fault}
 use Rattle.model.specs.Table.{verdict, next, or_stay, content_name}
 use Rattle.engine.specs.Memory.{Mem, Safe, pushed, placed, name_put, top_frame}
-use Rattle.engine.specs.Lays.{row_stacks, outer_stacks, Holds, Lays, Beyond, setting, Told, Does}
+use Rattle.engine.specs.Lays.{Lays, Beyond, setting, Told, Does}
 use Rattle.engine.specs.Opening.{FrameFree, Named, Awaits}
-use Rattle.engine.proofs.Begins.{Names, names_clear, names_fit, named_told, awaits_told, unframed_told}
-use Rattle.engine.proofs.Fronts.{front_length, front_grown, begins_self, begins_more}
+use Rattle.engine.proofs.Begins.{lays_placed, same_frame, holds_name, lays_element, Names, names_clear, names_fit, named_told, awaits_told, unframed_told}
+use Rattle.engine.proofs.Fronts.{front_length, begins_self}
 use Rattle.engine.proofs.Telling.{Clear, told_ok, depth_is_free, sink_unasked}
 use Rattle.engine.proofs.Spots.{on_content}
 use Rattle.engine.proofs.Tops.{top_flag}
 use Rattle.nests.specs.Frames.{Pushes}
-use Rattle.nests.proofs.Leaving.{nested_rest}
-use Rattle.nests.proofs.Pushing.{lays_placed, holds_row, holds_list, beyond_push}
-use Rattle.nests.proofs.Rowing.{same_named, pushes_told}
-
--- the name of an element that is still to come
-pub holds_name : (p : Bool) (rs : List Row) (l : Level) (ls : List Outer) (w : Mem) (n : List ℕ) → w.names.used + length n ≤ length w.names.all → Holds (inside (content p) rs l ls) w → Holds (inside (element (stack rs l) n) rs l ls) (name_put n w)
-holds_name p rs l ls w n fits h =
-    record {
-      stage = h.stage;
-      names = front_grown w.names (stack rs l) n fits h.names;
-      frames = h.frames;
-      records = h.records;
-      wordy = h.wordy;
-      fit = nested_rest (stack rs l ++ n) (stack rs l) (row_stacks rs ++ ((l.under ++ l.name) ∷ outer_stacks ls)) (begins_more (stack rs l) n) h.fit;
-    }
+use Rattle.nests.proofs.Pushing.{holds_row, holds_list, beyond_push}
+use Rattle.nests.proofs.Rowing.{pushes_told}
 
 -- a value that announces a text by the name for it, and else brings its name
 pub record Announces (c : Value) (n : List ℕ) : Type 0 where
@@ -94,10 +81,9 @@ module _ (room : ℕ) (w : Mem) (n : List ℕ) (p : Bool) (safe : Safe w) (at : 
     wrapped_told v r y m lay = on_content (λ x. Told (verdict (setting w) room (call_value (val_wrapped n)) x) r w v) w p m lay at (λ rs l ls z.
         let c = val_wrapped n in
         let here = inside (content p) rs l ls in
-        let there = inside (element (stack rs l) n) rs l ls in
         let goes : next w.form (call_value c) (inside (content p) rs l ls) ≡ inside (element (stack rs l) n) rs l ls = ap (λ b. or_stay (inside (content p) rs l ls) (moved_if rs l ls (Some (cond b (on simple l.body) (on (element (stack rs l) n) l.body))))) t in
         awaits_told room (call_value c) here n w (announced_name c n p w (wrapped_announces n) u rs l ls t) safe z.holds r v refl
-        (λ fits. subst (λ x. Lays x (placed (Element w.names.used) (name_put n w))) (sym goes) (lays_placed there (Element w.names.used) (name_put n w) (ap Element (front_length w.names (stack rs l) z.holds.names)) (holds_name p rs l ls w n fits z.holds))) y)
+        (λ fits. subst (λ x. Lays x (placed (Element w.names.used) (name_put n w))) (sym goes) (lays_element p rs l ls w n fits z.holds)) y)
 
     -- a row of elements: its name is refused, or no frame is free
     pub variants_refused : (e : Refusal) → Named {A = Unit {0}} (Err e) n w ⊎ (Named {A = Unit {0}} (Ok tt) n w × FrameFree (Err e) w) → Does (call_value (val_variant_row n)) room (Err e) w w
@@ -118,7 +104,8 @@ module _ (room : ℕ) (w : Mem) (n : List ℕ) (p : Bool) (safe : Safe w) (at : 
         let there = inside (element s n) (named_row s n f ∷ rs) l ls in
         let more = holds_name p rs l ls w n y.1 h in
         let used = front_length w.names s h.names in
-        let frame = same_named (top_frame w).flag f (w.names.used + length n) (length (s ++ n)) w.names.used (length s) (top_flag (content p) rs l ls w refl h) (front_length (name_put n w).names (s ++ n) more.names) used in
+        let frame : named_frame (top_frame w).flag (w.names.used + length n) w.names.used ≡ row_frame (named_row s n f) =
+        same_frame (top_flag (content p) rs l ls w refl h) refl (front_length (name_put n w).names (s ++ n) more.names) used in
         let laid = lays_placed there (Element w.names.used) (pushed (row_frame (named_row s n f)) (name_put n w)) (ap Element used) (holds_row (element s n) (element s n) (named_row s n f) rs l ls (name_put n w) (name_put n w).names refl refl free more more.names (begins_self (s ++ n)) more.fit) in
         let whole_is : v ≡ placed (Element w.names.used) (pushed (row_frame (named_row (stack rs l) n (flag rs l.body))) (name_put n w)) = is ∙ ap (λ j. placed (Element w.names.used) (pushed j (name_put n w))) frame in
         told_ok w room c here v (names_clear room c here n w k safe h y.0) safe h (names_fit room c here n w k safe h y.1) (depth_is_free w room c here safe h.frames free) (sink_unasked w room c here refl)

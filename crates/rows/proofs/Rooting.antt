@@ -20,9 +20,8 @@ use Rattle.engine.specs.Lays.{Lays, setting, Told, Does}
 use Rattle.engine.specs.Opening.{begun, Opens}
 use Rattle.engine.proofs.Fronts.{front_length, front_as, front_grown, front_push, past_cut}
 use Rattle.engine.proofs.Spots.{on_idle}
-use Rattle.engine.proofs.Telling.{told_small}
-use Rattle.engine.proofs.Begins.{Names, opens_told}
-use Rattle.rows.proofs.Told.{well_formed_none}
+use Rattle.engine.proofs.Telling.{no_bytes, told_small}
+use Rattle.engine.proofs.Begins.{Names, same_frame, opens_told}
 
 abandon_next : (f : EmptyElementHandling) (m : State) → next f call_abandon m ≡ idle
 abandon_next f idle = refl
@@ -42,7 +41,7 @@ pub abandon_ok : (room : ℕ) (w : Mem) → Safe w → is_idle (sort w.place) �
 abandon_ok room w safe h m lay =
     let order : out_of_order call_abandon m ≡ false = ap (λ p. not (not (is_idle (sort p)))) (sym lay.place) ∙ ap (λ b. not (not b)) h in
     told_small w room call_abandon m (emptied w)
-    (record { order = order; bytes = not_from_true (utf8 []) well_formed_none; shape = refl; text = refl; name = refl })
+    (record { order = order; bytes = no_bytes; shape = refl; text = refl; name = refl })
     (record { brought = refl; takes = refl; handed = refl }) safe lay.holds
     (subst (λ x. Lays x (emptied w)) (sym (abandon_next w.form m)) (lays_idle w))
     (record { stage = past_cut w.stage 0; names = past_cut w.names 0; frames = past_cut w.frames 0; form = refl; indentation = refl })
@@ -66,9 +65,6 @@ abandon_told room w v safe h is = subst (λ x. Does call_abandon room (Ok tt) w 
 stage_root : (i : Option Indentation) (n : List ℕ) → 60 ∷ n ≡ stage i (between (new_level [] n) [])
 stage_root i n = ap (λ z. 60 ∷ z) (sym (append-nil n) ∙ sym (append-nil (n ++ [])) ∙ sym (append-nil ((n ++ []) ++ [])))
 
-pub same_new : (t s k j a b : ℕ) → t ≡ s → k ≡ j → a ≡ b → new_frame t k a ≡ new_frame s j b
-same_new t s k j a b p q r = cc
-
 module _ (n : List ℕ) (w : Mem) (lay : Lays idle w) where
   unused : w.stage.used ≡ 0
   unused = front_length w.stage [] lay.holds.stage
@@ -79,7 +75,7 @@ module _ (n : List ℕ) (w : Mem) (lay : Lays idle w) where
   root_framed : new_frame (w.stage.used + length (60 ∷ n)) (w.names.used + length n) w.names.used ≡ record_frame w.indentation (new_level [] n) [] []
   root_framed =
       let size : length (60 ∷ n) ≡ length (60 ∷ ((n ++ []) ++ [])) = ap (λ z. length (60 ∷ z)) (sym (append-nil n) ∙ sym (append-nil (n ++ []))) in
-      same_new (w.stage.used + length (60 ∷ n)) (length (60 ∷ ((n ++ []) ++ []))) (w.names.used + length n) (length n) w.names.used 0 (omega (arith, unused, size)) (omega (arith, unnamed)) unnamed
+      same_frame refl (omega (arith, unused, size)) (omega (arith, unnamed)) unnamed
 
   lays_root : w.names.used + length n ≤ length w.names.all → w.frames.used < length w.frames.all → w.stage.used + length (60 ∷ n) ≤ length w.stage.all → Lays (between (new_level [] n) []) (begun w.names.used (name_put n (appended (60 ∷ n) w)))
   lays_root b d a =

@@ -1,7 +1,6 @@
 -- A value's answer from what the code's step says it wrote. Assumes nothing.
 use Rattle.std.proofs.Common.{◌≡◌, ℕ, suc, Bool, true, false, List, [], length, Some, Ok, Err, Result, sym, refl, ap, ◌∙◌, subst, arith}
 use Rattle.std.proofs.lemmas.Bool.{not_from_true, and_right}
-use Rattle.std.proofs.lemmas.Str.{IsUtf8-nil}
 use Rattle.refusal.specs.declared.Refusal.{Refusal}
 use Rattle.refusal.specs.declared.Refusal.TheVariants.{Stage}
 use Rattle.style.specs.declared.result.WriteResult.{WriteResult}
@@ -14,17 +13,12 @@ use Rattle.model.specs.Step.{done, put, put_element, moved_if, settle, with_body
 use Rattle.model.specs.Layout.{spot_frames}
 use Rattle.model.specs.Grounds.{no_element, is_text, value_string}
 use Rattle.model.specs.Table.{verdict, next, or_stay, value_opens}
-use Rattle.model.proofs.Spelling.{utf8_from}
 use Rattle.engine.specs.Memory.{Mem, Safe, settled, worded, appended}
 use Rattle.engine.specs.Lays.{Lays, setting, Told}
 use Rattle.engine.proofs.Kids.{more_kids}
 use Rattle.engine.proofs.Values.{value_ok, value_full}
 use Rattle.engine.proofs.Telling.{Clear, Small}
 use Rattle.rows.specs.Pieces.{Writes}
-
--- no bytes are well-formed
-pub well_formed_none : utf8 [] ≡ true
-well_formed_none = utf8_from [] IsUtf8-nil
 
 -- a value that writes marks and is complete
 pub spot_told : (c : Value) (room : ℕ) (s : Spot) (rs : List Row) (l : Level) (ls : List Outer) (w v : Mem) (res : Result (Unit {0}) Refusal) (r : WriteResult) (ms : List Mark) (t : Bool) (bs : List ℕ) → spot_frames s ≡ [] → Clear (call_value c) (inside s rs l ls) → Small (call_value c) (inside s rs l ls) w → put w.form (suc (length ls)) rs (stack rs l) l.body s c ≡ Some (done r (more_kids l.body ms t)) → bs ≡ flatten w.indentation ms → Safe w → Lays (inside s rs l ls) w → Writes res bs r t w v → Told (verdict (setting w) room (call_value c) (inside s rs l ls)) res w v

@@ -1,6 +1,6 @@
 -- A complete record goes to the sink. Assumes nothing.
-use Rattle.std.proofs.Common.{◌≡◌, ℕ, ◌+◌, ◌-◌, ◌<◌, min, false, List, [], ◌++◌, length, take, drop, Ok, Err, sym, refl, ap, ◌∙◌, subst, arith}
-use Rattle.std.proofs.lemmas.Bool.{le-ltb, not_from_true}
+use Rattle.std.proofs.Common.{◌≡◌, ℕ, ◌+◌, ◌-◌, ◌<◌, min, false, List, ◌++◌, length, take, drop, Ok, Err, sym, refl, ap, ◌∙◌, subst, arith}
+use Rattle.std.proofs.lemmas.Bool.{le-ltb}
 use Rattle.refusal.specs.declared.Refusal.{Refusal}
 use Rattle.refusal.specs.declared.Refusal.TheVariants.{Order, Bytes, Shape, RunOn, Name, Stack, Depth, Stage, Sink, Style}
 use Rattle.refusal.specs.Refusals.{Refuses}
@@ -8,7 +8,6 @@ use Rattle.sink.specs.Puts.{Puts}
 use Rattle.reader.specs.Trees.{Bytes as ByteList}
 use Rattle.model.specs.declared.place.Place.TheVariants.{Complete}
 use Rattle.model.specs.Marks.{Mark, flatten}
-use Rattle.model.specs.Strings.{utf8}
 use Rattle.model.specs.Calls.{call_finish}
 use Rattle.model.specs.Model.{complete}
 use Rattle.model.specs.Table.{verdict, stage_full}
@@ -16,14 +15,13 @@ use Rattle.engine.specs.Memory.{emptied, Buf, Mem, Safe}
 use Rattle.engine.specs.Lays.{Lays, Beyond, setting, Told}
 use Rattle.engine.proofs.Fronts.{past_cut}
 use Rattle.engine.proofs.Spots.{on_complete}
-use Rattle.engine.proofs.Telling.{Clear, told_ok, told_sink, depth_unasked}
+use Rattle.engine.proofs.Telling.{no_bytes, Clear, told_ok, told_sink, depth_unasked}
 use Rattle.rows.proofs.Rooting.{lays_idle}
-use Rattle.rows.proofs.Told.{well_formed_none}
 use Rattle.writer.specs.Served.{Served, Serves, session}
 use Rattle.writer.proofs.Sinking.{refused_stays, accepted_sink, accepted_room}
 
 clear : (ms : List Mark) → Clear call_finish (complete ms)
-clear ms = record { order = refl; bytes = not_from_true (utf8 []) well_formed_none; shape = refl; text = refl; name = refl }
+clear ms = record { order = refl; bytes = no_bytes; shape = refl; text = refl; name = refl }
 
 module _ (w : Mem) (k : ℕ) (safe : Safe w) (ms : List Mark) (lay : Lays (complete ms) w) where
   -- the bytes that are put are the record's

@@ -1,7 +1,7 @@
 use Rattle.std.proofs.Common.{refl}
 use Rattle.model.specs.Calls.{val_none}
 use Rattle.engine.specs.Memory.{mem}
-use Rattle.rows.proofs.Told.{well_formed_none}
+use Rattle.engine.proofs.Telling.{well_formed_none}
 use Rattle.rows.proofs.Wording.{only_silent}
 use Rattle.rows.proofs.words.none_as_words.Goals as goal
 

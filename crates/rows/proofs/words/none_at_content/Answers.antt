@@ -2,7 +2,7 @@ use Rattle.std.proofs.Common.{refl}
 use Rattle.style.specs.declared.result.WriteResult.TheVariants.{SensitiveNothing}
 use Rattle.model.specs.Calls.{val_none}
 use Rattle.engine.specs.Memory.{mem}
-use Rattle.rows.proofs.Told.{well_formed_none}
+use Rattle.engine.proofs.Telling.{well_formed_none}
 use Rattle.rows.proofs.Wording.{content_silent}
 use Rattle.rows.proofs.words.none_at_content.Goals as goal
 
