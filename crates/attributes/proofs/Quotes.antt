@@ -1,6 +1,5 @@
 -- An attribute that is not complete: bytes put in behind what stands of it. Assumes nothing.
-use Rattle.std.proofs.Common.{◌≡◌, ℕ, suc, ◌+◌, ◌<◌, List, [], ◌∷◌, ◌++◌, length, Ok, Err, Option, Result, sym, refl, ap, ◌∙◌, subst, arith}
-use Rattle.std.proofs.lemmas.List.{length-append}
+use Rattle.std.proofs.Common.{◌≡◌, ℕ, suc, ◌+◌, ◌<◌, List, [], ◌∷◌, ◌++◌, length, Ok, Err, Option, Result, sym, ap, subst, arith}
 use Rattle.refusal.specs.declared.Refusal.{Refusal}
 use Rattle.refusal.specs.declared.Refusal.TheVariants.{Stage}
 use Rattle.style.specs.declared.indentation.Indentation.{Indentation}
@@ -15,8 +14,8 @@ use Rattle.model.specs.Layout.{stage, pending, tag_end, record_frame, outer_fram
 use Rattle.model.specs.Table.{verdict, next}
 use Rattle.engine.specs.Memory.{Mem, Safe, in_tag, placed}
 use Rattle.engine.specs.Lays.{Front, Nested, outer_stacks, Holds, Lays, Beyond, setting, Told}
-use Rattle.engine.proofs.Fronts.{front_length, front_as, past_same}
-use Rattle.engine.proofs.Tags.{tag_end_more, tag_end_closed, Tag, tag_grows, tag_past, tag_frames_past}
+use Rattle.engine.proofs.Fronts.{front_as}
+use Rattle.engine.proofs.Tags.{tag_end_closed, Tag, tag_depth, tag_size, tag_grows, tag_beyond}
 use Rattle.engine.proofs.Begins.{lays_placed}
 use Rattle.engine.proofs.Telling.{Clear, Small, told_small, told_small_full}
 use Rattle.attributes.specs.Inserts.{Inserts}
@@ -27,10 +26,7 @@ quote_tag q l ls w h = record { stage = h.stage; frames = h.frames }
 
 -- how many frames are in use: those around the record, its own, and a list's
 pub quote_depth : (q : Quote) (l : Level) (ls : List Outer) (w : Mem) → Holds (quote q l ls) w → w.frames.used ≡ length (outer_frames w.indentation ls) + suc (length (quote_frames q))
-quote_depth q l ls w h =
-    let i = w.indentation in
-    let f = record_frame i l ls (pending q) in
-    front_length w.frames (outer_frames i ls ++ (f ∷ quote_frames q)) h.frames ∙ length-append (outer_frames i ls) (f ∷ quote_frames q)
+quote_depth q l ls w h = tag_depth w l ls (pending q) (quote_frames q) (quote_tag q l ls w h)
 
 -- what was written is one of the attributes now
 pub stage_attribute : (i : Option Indentation) (l : Level) (ls : List Outer) (a : List ℕ) → stage i (between (with_attribute l a) ls) ≡ tag_end i l ls a ++ flatten i l.body.kids
@@ -55,25 +51,14 @@ holds_attribute l ls w a t n r d f =
 -- bytes that do not fit
 pub quote_full : (room : ℕ) (c : Call) (q : Quote) (l : Level) (ls : List Outer) (w : Mem) (bs : List ℕ) (m' : State) → Clear c (quote q l ls) → Small c (quote q l ls) w → Safe w → Lays (quote q l ls) w → next w.form c (quote q l ls) ≡ m' → stage w.indentation m' ≡ tag_end w.indentation l ls (pending q ++ bs) ++ flatten w.indentation l.body.kids → length w.stage.all < w.stage.used + length bs → Told (verdict (setting w) room c (quote q l ls)) (Err Stage) w w
 quote_full room c q l ls w bs m' clear small safe lay leads e full =
-    let i = w.indentation in
-    let p = pending q in
-    let kids = flatten i l.body.kids in
-    let long : length (tag_end i l ls (p ++ bs)) ≡ length (tag_end i l ls p) + length bs = ap length (sym (tag_end_more i l ls p bs)) ∙ length-append (tag_end i l ls p) bs in
     told_small_full w room c (quote q l ls) clear small safe lay.holds
-    (omega (arith, full, ap (λ z. length (stage i z)) leads, ap length e, long, length-append (tag_end i l ls (p ++ bs)) kids, length-append (tag_end i l ls p) kids, front_length w.stage (tag_end i l ls p ++ kids) lay.holds.stage))
+    (omega (arith, full, ap (λ z. length (stage w.indentation z)) leads, ap length e, tag_size w l ls (pending q) (quote_frames q) (quote_tag q l ls w lay.holds) bs))
 
 -- from what the step says it did
 pub inserts_told : (room : ℕ) (c : Call) (q : Quote) (l : Level) (ls : List Outer) (w v : Mem) (k : ℕ) (bs : List ℕ) (r : Result (Unit {0}) Refusal) (p : Place) (m' : State) → Clear c (quote q l ls) → Small c (quote q l ls) w → Safe w → Lays (quote q l ls) w → k ≡ length (outer_frames w.indentation ls) → next w.form c (quote q l ls) ≡ m' → p ≡ place m' → stage w.indentation m' ≡ tag_end w.indentation l ls (pending q ++ bs) ++ flatten w.indentation l.body.kids → (Tag (in_tag k bs w) l ls (pending q ++ bs) (quote_frames q) → Holds m' (in_tag k bs w)) → Inserts r k bs p w v → Told (verdict (setting w) room c (quote q l ls)) r w v
 inserts_told room c q l ls w v k bs (Ok x) p m' clear small safe lay at leads e s hold y =
     let t = quote_tag q l ls w lay.holds in
-    let beyond : Beyond w (placed p (in_tag k bs w)) =
-    record {
-      stage = tag_past w l ls (pending q) (quote_frames q) k at t bs y.0;
-      names = past_same w.names;
-      frames = tag_frames_past w l ls (pending q) (quote_frames q) k at t bs;
-      form = refl;
-      indentation = refl;
-    } in
+    let beyond : Beyond w (placed p (in_tag k bs w)) = tag_beyond w l ls (pending q) (quote_frames q) k at t bs p y.0 in
     let laid = lays_placed m' p (in_tag k bs w) e (hold (tag_grows w l ls (pending q) (quote_frames q) k at t bs y.0)) in
     told_small w room c (quote q l ls) v clear small safe lay.holds (subst (λ z. Lays z v) (sym leads) (subst (λ z. Lays m' z) (sym y.1) laid)) (subst (λ z. Beyond w z) (sym y.1) beyond)
 inserts_told room c q l ls w v k bs (Err x) p m' clear small safe lay at leads e s hold y =

@@ -1,16 +1,17 @@
 -- Bytes at the end of the innermost open tag, before the children. Assumes nothing.
-use Rattle.std.proofs.Common.{◌≡◌, ℕ, ◌+◌, ◌<◌, ◌≤◌, List, [], ◌∷◌, ◌++◌, length, Option, sym, ap, ◌∙◌, append_assoc, arith}
+use Rattle.std.proofs.Common.{◌≡◌, ℕ, suc, ◌+◌, ◌<◌, ◌≤◌, List, [], ◌∷◌, ◌++◌, length, Option, sym, refl, ap, ◌∙◌, append_assoc, arith}
 use Rattle.std.proofs.lemmas.List.{length-append, append-nil}
 use Rattle.style.specs.declared.indentation.Indentation.{Indentation}
+use Rattle.model.specs.declared.place.Place.{Place}
 use Rattle.model.specs.declared.frame.Frame.{Frame}
 use Rattle.model.specs.Marks.{flatten, bytes_of_mark}
 use Rattle.model.specs.Model.{Level, Outer, start}
 use Rattle.model.specs.Step.{with_attribute}
 use Rattle.model.specs.Layout.{below, open_tag, tag_end, record_frame, outer_frames}
 use Rattle.engine.specs.Frames.{no_frame, longer_tag}
-use Rattle.engine.specs.Memory.{Mem, frame_at, in_tag}
-use Rattle.engine.specs.Lays.{Front, Past}
-use Rattle.engine.proofs.Fronts.{front_length, front_as, front_get, front_set, front_opened, past_opened, past_set}
+use Rattle.engine.specs.Memory.{Mem, frame_at, in_tag, placed}
+use Rattle.engine.specs.Lays.{Front, Past, Beyond}
+use Rattle.engine.proofs.Fronts.{front_length, front_as, front_get, front_set, front_opened, past_same, past_opened, past_set}
 
 -- more of an attribute is written
 pub tag_end_more : (i : Option Indentation) (l : Level) (ls : List Outer) (p s : List ℕ) → tag_end i l ls p ++ s ≡ tag_end i l ls (p ++ s)
@@ -28,6 +29,21 @@ pub record Tag (w : Mem) (l : Level) (ls : List Outer) (p : List ℕ) (qs : List
   pub stage : Front w.stage (tag_end w.indentation l ls p ++ flatten w.indentation l.body.kids)
   pub frames : Front w.frames (outer_frames w.indentation ls ++ (record_frame w.indentation l ls p ∷ qs))
 
+module _ (w : Mem) (l : Level) (ls : List Outer) (p : List ℕ) (qs : List Frame) (t : Tag w l ls p qs) where
+  -- how many frames are in use
+  pub tag_depth : w.frames.used ≡ length (outer_frames w.indentation ls) + suc (length qs)
+  tag_depth =
+      let xs = outer_frames w.indentation ls in
+      let f = record_frame w.indentation l ls p in
+      front_length w.frames (xs ++ (f ∷ qs)) t.frames ∙ length-append xs (f ∷ qs)
+
+  -- how long the stage is with more of the attribute
+  pub tag_size : (s : List ℕ) → length (tag_end w.indentation l ls (p ++ s) ++ flatten w.indentation l.body.kids) ≡ w.stage.used + length s
+  tag_size s =
+      let i = w.indentation in
+      let kids = flatten i l.body.kids in
+      omega (arith, front_length w.stage (tag_end i l ls p ++ kids) t.stage, length-append (tag_end i l ls p) kids, length-append (tag_end i l ls (p ++ s)) kids, length-append (tag_end i l ls p) s, ap length (tag_end_more i l ls p s))
+
 module _ (w : Mem) (l : Level) (ls : List Outer) (p : List ℕ) (qs : List Frame) (k : ℕ) (at : k ≡ length (outer_frames w.indentation ls)) (t : Tag w l ls p qs) where
   -- the record's frame
   pub tag_frame : frame_at w k ≡ record_frame w.indentation l ls p
@@ -41,7 +57,7 @@ module _ (w : Mem) (l : Level) (ls : List Outer) (p : List ℕ) (qs : List Frame
   tag_low = let i = w.indentation in omega (arith, tag_is, front_length w.stage (tag_end i l ls p ++ flatten i l.body.kids) t.stage, length-append (tag_end i l ls p) (flatten i l.body.kids))
 
   pub frame_low : k < w.frames.used
-  frame_low = let i = w.indentation in omega (arith, at, front_length w.frames (outer_frames i ls ++ (record_frame i l ls p ∷ qs)) t.frames, length-append (outer_frames i ls) (record_frame i l ls p ∷ qs))
+  frame_low = omega (arith, at, tag_depth w l ls p qs t)
 
   -- bytes put in at its end
   pub tag_grows : (s : List ℕ) → w.stage.used + length s ≤ length w.stage.all → Tag (in_tag k s w) l ls (p ++ s) qs
@@ -61,5 +77,12 @@ module _ (w : Mem) (l : Level) (ls : List Outer) (p : List ℕ) (qs : List Frame
   pub tag_past : (s : List ℕ) → w.stage.used + length s ≤ length w.stage.all → Past w.stage (in_tag k s w).stage
   tag_past s room = past_opened w.stage s (frame_at w k).tag tag_low room
 
-  pub tag_frames_past : (s : List ℕ) → Past w.frames (in_tag k s w).frames
-  tag_frames_past s = past_set w.frames k w.frames.used (longer_tag ((frame_at w k).tag + length s) (frame_at w k)) frame_low
+  pub tag_beyond : (s : List ℕ) (q : Place) → w.stage.used + length s ≤ length w.stage.all → Beyond w (placed q (in_tag k s w))
+  tag_beyond s q room =
+      record {
+        stage = tag_past s room;
+        names = past_same w.names;
+        frames = past_set w.frames k w.frames.used (longer_tag ((frame_at w k).tag + length s) (frame_at w k)) frame_low;
+        form = refl;
+        indentation = refl;
+      }

@@ -1,8 +1,8 @@
 -- A field begins whose value is an attribute: its name stands at the end of the open tag. Assumes nothing.
-use Rattle.std.proofs.Common.{◌≡◌, ℕ, ◌+◌, ◌-◌, ◌<◌, ◌≤◌, true, List, [], ◌∷◌, ◌++◌, length, get_or, take, drop, Some, None, Ok, Err, IsUtf8, rules, sym, refl, ap, subst, arith}
+use Rattle.std.proofs.Common.{◌≡◌, ℕ, ◌+◌, ◌-◌, ◌<◌, ◌≤◌, true, List, [], ◌∷◌, length, get_or, take, drop, Some, None, Ok, Err, IsUtf8, rules, sym, refl, ap, subst, arith}
 use lib.Utf8.{encodes}
 use Rattle.std.proofs.lemmas.Grind.{common_steps}
-use Rattle.std.proofs.lemmas.List.{length-append, length_push}
+use Rattle.std.proofs.lemmas.List.{length-append}
 use Rattle.std.proofs.lemmas.Str.{IsUtf8-append, IsUtf8-from_ascii}
 use Rattle.refusal.specs.declared.Refusal.TheVariants.{Stage}
 use Rattle.xml.specs.Names.{name_fault}
@@ -10,17 +10,15 @@ use Rattle.xml.proofs.Naming.{faults_of}
 use Rattle.model.specs.declared.place.Place.TheVariants.{Field, Attribute}
 use Rattle.model.specs.Strings.{utf8}
 use Rattle.model.specs.Calls.{call_field}
-use Rattle.model.specs.Marks.{flatten}
 use Rattle.model.specs.Model.{Level, Outer, single, between, quote}
-use Rattle.model.specs.Layout.{pending, tag_end, record_frame, outer_frames}
+use Rattle.model.specs.Layout.{pending, outer_frames}
 use Rattle.model.specs.Grounds.{behind}
 use Rattle.model.specs.Table.{verdict}
 use Rattle.model.proofs.Spelling.{utf8_true, utf8_from, well_formed_key}
 use Rattle.engine.specs.Memory.{Mem, Safe, placed, in_tag}
 use Rattle.engine.specs.Lays.{Lays, Holds, Beyond, setting, Told, Does}
-use Rattle.engine.proofs.Fronts.{front_length, past_same}
 use Rattle.engine.proofs.Spots.{on_field}
-use Rattle.engine.proofs.Tags.{Tag, tag_end_more, tag_grows, tag_past, tag_frames_past}
+use Rattle.engine.proofs.Tags.{Tag, tag_depth, tag_size, tag_grows, tag_beyond}
 use Rattle.engine.proofs.Telling.{Clear, Small, told_small, told_small_full}
 use Rattle.fields.proofs.ChildKeys.{key_clear}
 
@@ -47,18 +45,18 @@ fault_within n k u e =
     omega (arith, f.offset, ap length f.spelt, length-append (encodes f.front) f.here)
 
 -- the record's frame stands on top, and its tag is open
+pub field_open : (l : Level) (ls : List Outer) (w : Mem) → Holds (between l ls) w → Tag w l ls [] []
+field_open l ls w h = record { stage = h.stage; frames = h.frames }
+
 pub last_frame : (l : Level) (ls : List Outer) (w : Mem) → Holds (between l ls) w → w.frames.used ≡ length (outer_frames w.indentation ls) + 1
-last_frame l ls w h =
-    let i = w.indentation in
-    let f = record_frame i l ls [] in
-    omega (arith, front_length w.frames (outer_frames i ls ++ (f ∷ [])) h.frames, length_push (outer_frames i ls) f)
+last_frame l ls w h = tag_depth w l ls [] [] (field_open l ls w h)
 
 module _ (n : List ℕ) (l : Level) (ls : List Outer) (w : Mem) (room : w.stage.used + length (pending (single n)) ≤ length w.stage.all) (h : Holds (between l ls) w) where
   top : w.frames.used - 1 ≡ length (outer_frames w.indentation ls)
   top = omega (arith, last_frame l ls w h)
 
   tag : Tag w l ls [] []
-  tag = record { stage = h.stage; frames = h.frames }
+  tag = field_open l ls w h
 
   lays_attribute : Lays (quote (single n) l ls) (placed Attribute (in_tag (w.frames.used - 1) (pending (single n)) w))
   lays_attribute =
@@ -66,14 +64,7 @@ module _ (n : List ℕ) (l : Level) (ls : List Outer) (w : Mem) (room : w.stage.
       record { holds = record { stage = grown.stage; names = h.names; frames = grown.frames; records = h.records; wordy = h.wordy; fit = h.fit }; place = refl }
 
   beyond_attribute : Beyond w (placed Attribute (in_tag (w.frames.used - 1) (pending (single n)) w))
-  beyond_attribute =
-      record {
-        stage = tag_past w l ls [] [] (w.frames.used - 1) top tag (pending (single n)) room;
-        names = past_same w.names;
-        frames = tag_frames_past w l ls [] [] (w.frames.used - 1) top tag (pending (single n));
-        form = refl;
-        indentation = refl;
-      }
+  beyond_attribute = tag_beyond w l ls [] [] (w.frames.used - 1) top tag (pending (single n)) Attribute room
 
 module _ (n : List ℕ) (room : ℕ) (w : Mem) (safe : Safe w) (at : w.place ≡ Field) (fine : utf8 (64 ∷ n) ≡ true) (f : name_fault n ≡ None) where
   clear : (l : Level) (ls : List Outer) → Clear (call_field (64 ∷ n)) (between l ls)
@@ -94,8 +85,5 @@ module _ (n : List ℕ) (room : ℕ) (w : Mem) (safe : Safe w) (at : w.place ≡
   attribute_full h m lay =
       on_field (λ y. Told (verdict (setting w) room (call_field (64 ∷ n)) y) (Err Stage) w w) w m lay at
       (λ l ls y.
-      let i = w.indentation in
-      let p = pending (single n) in
-      let kids = flatten i l.body.kids in
       told_small_full w room (call_field (64 ∷ n)) (between l ls) (clear l ls) (small l ls) safe y.holds
-      (omega (arith, h, front_length w.stage (tag_end i l ls [] ++ kids) y.holds.stage, length-append (tag_end i l ls []) kids, length-append (tag_end i l ls p) kids, length-append (tag_end i l ls []) p, ap length (tag_end_more i l ls [] p))))
+      (omega (arith, h, tag_size w l ls [] [] (field_open l ls w y.holds) (pending (single n)))))

@@ -6,7 +6,7 @@ use Rattle.engine.specs.Memory.{Mem, top_frame}
 use Rattle.engine.specs.Lays.{Lays}
 use Rattle.engine.proofs.Spots.{on_field}
 use Rattle.engine.proofs.Tags.{tag_low}
-use Rattle.fields.proofs.AttributeKeys.{last_frame}
+use Rattle.fields.proofs.AttributeKeys.{field_open, last_frame}
 
 -- a record is open
 pub field_deep : (m : State) (w : Mem) → Lays m w → w.place ≡ Field → 0 < w.frames.used
@@ -16,4 +16,4 @@ field_deep m w lay at = on_field (λ x. 0 < w.frames.used) w m lay at (λ l ls y
 pub field_tag : (m : State) (w : Mem) → Lays m w → w.place ≡ Field → (top_frame w).tag ≤ w.stage.used
 field_tag m w lay at =
     on_field (λ x. (top_frame w).tag ≤ w.stage.used) w m lay at
-    (λ l ls y. tag_low w l ls [] [] (w.frames.used - 1) (omega (arith, last_frame l ls w y.holds)) (record { stage = y.holds.stage; frames = y.holds.frames }))
+    (λ l ls y. tag_low w l ls [] [] (w.frames.used - 1) (omega (arith, last_frame l ls w y.holds)) (field_open l ls w y.holds))
