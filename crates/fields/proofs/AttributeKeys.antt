@@ -2,9 +2,10 @@
 use Rattle.std.proofs.Common.{◌≡◌, ℕ, ◌+◌, ◌-◌, ◌<◌, ◌≤◌, true, List, [], ◌∷◌, length, get_or, take, drop, Some, None, Ok, Err, IsUtf8, rules, sym, refl, ap, subst, arith}
 use lib.Utf8.{encodes}
 use Rattle.std.proofs.lemmas.Grind.{common_steps}
+use Rattle.std.proofs.lemmas.Bool.{not_from_true}
 use Rattle.std.proofs.lemmas.List.{length-append}
 use Rattle.std.proofs.lemmas.Str.{IsUtf8-append, IsUtf8-from_ascii}
-use Rattle.refusal.specs.declared.Refusal.TheVariants.{Stage}
+use Rattle.refusal.specs.declared.Refusal.TheVariants.{Name, Stage}
 use Rattle.xml.specs.Names.{name_fault}
 use Rattle.xml.proofs.Naming.{faults_of}
 use Rattle.model.specs.declared.place.Place.TheVariants.{Field, Attribute}
@@ -19,7 +20,7 @@ use Rattle.engine.specs.Memory.{Mem, Safe, placed, in_tag}
 use Rattle.engine.specs.Lays.{Lays, Holds, Beyond, setting, Told, Does}
 use Rattle.engine.proofs.Spots.{on_field}
 use Rattle.engine.proofs.Tags.{Tag, tag_depth, tag_size, tag_grows, tag_beyond}
-use Rattle.engine.proofs.Telling.{Clear, Small, told_small, told_small_full}
+use Rattle.engine.proofs.Telling.{Clear, Small, told_name, told_small, told_small_full}
 use Rattle.fields.proofs.ChildKeys.{key_clear}
 
 -- what follows the '@' of a well-formed key is well-formed
@@ -65,6 +66,12 @@ module _ (n : List ℕ) (l : Level) (ls : List Outer) (w : Mem) (room : w.stage.
 
   beyond_attribute : Beyond w (placed Attribute (in_tag (w.frames.used - 1) (pending (single n)) w))
   beyond_attribute = tag_beyond w l ls [] [] (w.frames.used - 1) top tag (pending (single n)) Attribute room
+
+-- the name is at fault: its place is told as it is in the key
+pub attribute_misnamed : (n : List ℕ) (room k : ℕ) (w : Mem) → w.place ≡ Field → utf8 (64 ∷ n) ≡ true → name_fault n ≡ Some k → Does (call_field (64 ∷ n)) room (Err (Name (1 + k))) w w
+attribute_misnamed n room k w at fine f m lay =
+    on_field (λ y. Told (verdict (setting w) room (call_field (64 ∷ n)) y) (Err (Name (1 + k))) w w) w m lay at
+    (λ l ls y. told_name w room (call_field (64 ∷ n)) (between l ls) (1 + k) refl (not_from_true (utf8 (64 ∷ n)) fine) refl refl (ap (behind 1) f))
 
 module _ (n : List ℕ) (room : ℕ) (w : Mem) (safe : Safe w) (at : w.place ≡ Field) (fine : utf8 (64 ∷ n) ≡ true) (f : name_fault n ≡ None) where
   clear : (l : Level) (ls : List Outer) → Clear (call_field (64 ∷ n)) (between l ls)
