@@ -21,6 +21,10 @@ use Rattle.rows.specs.Pieces.{Writes, name_of, empty_bytes, text_bytes}
 use Rattle.rows.proofs.Tagging.{name_is, empty_is, text_is}
 use Rattle.rows.proofs.Told.{element_told}
 
+-- what a rule chooses is all that counts of it
+pub by_rule : (P : List ℕ → Type 0) (ρ : Rule) {chosen : Use → ℕ → Bool} (u : Use) (s : List ℕ) → ρ.chooses ≡ chosen → P (escaped (chosen u) s) → P (escaped (ρ.chooses u) s)
+by_rule P ρ u s e = subst (λ f. P (escaped (f u) s)) (sym e)
+
 module _ (c : Value) (room from : ℕ) (w v : Mem) (res : Result (Unit {0}) Refusal) (at : w.place ≡ Element from) (safe : Safe w) where
   pub element_empty : utf8 (value_string c) ≡ true → no_element c ≡ false → value_opens c ≡ false → ((f : EmptyElementHandling) (d : ℕ) (rs : List Row) (b : Body) (u n : List ℕ) → put_element f d rs b u n c ≡ Some (empty_child f d rs b n)) → Writes res (empty_bytes w (name_of w from)) element_result false w v → Does (call_value c) room res w v
   element_empty a q o p h m lay =
@@ -29,16 +33,14 @@ module _ (c : Value) (room from : ℕ) (w v : Mem) (res : Result (Unit {0}) Refu
       element_told c room u n rs l ls w v res (child_start rs l.body (suc (length ls)) ∷ empty_element w.form n) (empty_bytes w (name_of w from)) a q o (p w.form (suc (length ls)) rs l.body u n)
       (ap (empty_bytes w) (name_is u n rs l ls w from e y.holds) ∙ empty_is (element u n) n rs l ls w refl y.holds) safe y h)
 
-  pub element_text : (s : List ℕ) → utf8 (value_string c) ≡ true → no_element c ≡ false → value_opens c ≡ false → ((f : EmptyElementHandling) (d : ℕ) (rs : List Row) (b : Body) (u n : List ℕ) → put_element f d rs b u n c ≡ Some (text_child f d rs b n s)) → Writes res (text_bytes w (name_of w from) s) element_result false w v → Does (call_value c) room res w v
-  element_text s a q o p h m lay =
+  pub element_text : (ρ : Rule) {chosen : Use → ℕ → Bool} (x : List ℕ) → ρ.chooses ≡ chosen → utf8 (value_string c) ≡ true → no_element c ≡ false → value_opens c ≡ false → ((f : EmptyElementHandling) (d : ℕ) (rs : List Row) (b : Body) (u n : List ℕ) → put_element f d rs b u n c ≡ Some (text_child f d rs b n (escaped (ρ.chooses text_use) x))) → Writes res (text_bytes w (name_of w from) (escaped (chosen text_use) x)) element_result false w v → Does (call_value c) room res w v
+  element_text ρ x is a q o p h m lay =
+      let s = escaped (ρ.chooses text_use) x in
+      let wrote = by_rule (λ z. Writes res (text_bytes w (name_of w from) z) element_result false w v) ρ text_use x is h in
       on_element (λ x. Told (verdict (setting w) room (call_value c) x) res w v) w from m lay at
       (λ u n rs l ls e y.
       element_told c room u n rs l ls w v res (child_start rs l.body (suc (length ls)) ∷ text_element n s) (text_bytes w (name_of w from) s) a q o (p w.form (suc (length ls)) rs l.body u n)
-      (ap (λ x. text_bytes w x s) (name_is u n rs l ls w from e y.holds) ∙ text_is (element u n) n s rs l ls w refl y.holds) safe y h)
-
--- what a rule chooses is all that counts of it
-pub by_rule : (P : List ℕ → Type 0) (ρ : Rule) {chosen : Use → ℕ → Bool} (u : Use) (s : List ℕ) → ρ.chooses ≡ chosen → P (escaped (chosen u) s) → P (escaped (ρ.chooses u) s)
-by_rule P ρ u s e = subst (λ f. P (escaped (f u) s)) (sym e)
+      (ap (λ x. text_bytes w x s) (name_is u n rs l ls w from e y.holds) ∙ text_is (element u n) n s rs l ls w refl y.holds) safe y wrote)
 
 -- no text, or some
 pub text_none : (ρ : Rule) (s : List ℕ) → length s ≡ 0 → (f : EmptyElementHandling) (d : ℕ) (rs : List Row) (b : Body) (u n : List ℕ) → put_element f d rs b u n (val_text ρ s) ≡ Some (empty_child f d rs b n)
@@ -49,8 +51,6 @@ pub text_some : (ρ : Rule) (s : List ℕ) → (length s ≡ 0 → ⊥) → (f :
 text_some ρ [] h f d rs b u n = absurd (h refl)
 text_some ρ (x ∷ s) h f d rs b u n = refl
 
-pub variant_none : (ρ : Rule) (s : List ℕ) → is_text_name s ≡ true → (f : EmptyElementHandling) (d : ℕ) (rs : List Row) (b : Body) (u n : List ℕ) → put_element f d rs b u n (val_variant ρ s) ≡ Some (empty_child f d rs b n)
-variant_none ρ s h f d rs b u n = ap (λ t. Some (cond t (empty_child f d rs b n) (text_child f d rs b n (escaped (ρ.chooses text_use) s)))) h
-
-pub variant_some : (ρ : Rule) (s : List ℕ) → is_text_name s ≡ false → (f : EmptyElementHandling) (d : ℕ) (rs : List Row) (b : Body) (u n : List ℕ) → put_element f d rs b u n (val_variant ρ s) ≡ Some (text_child f d rs b n (escaped (ρ.chooses text_use) s))
-variant_some ρ s h f d rs b u n = ap (λ t. Some (cond t (empty_child f d rs b n) (text_child f d rs b n (escaped (ρ.chooses text_use) s)))) h
+-- a variant's name, which may be the one for a text
+pub variant_child : (ρ : Rule) (s : List ℕ) (t : Bool) → is_text_name s ≡ t → (f : EmptyElementHandling) (d : ℕ) (rs : List Row) (b : Body) (u n : List ℕ) → put_element f d rs b u n (val_variant ρ s) ≡ Some (cond t (empty_child f d rs b n) (text_child f d rs b n (escaped (ρ.chooses text_use) s)))
+variant_child ρ s t h f d rs b u n = ap (λ t. Some (cond t (empty_child f d rs b n) (text_child f d rs b n (escaped (ρ.chooses text_use) s)))) h

@@ -1,13 +1,7 @@
-use Rattle.std.proofs.Common.{◌≡◌, true, not, ◌||◌, length, refl, eqb, rules}
-use Rattle.style.specs.declared.result.WriteResult.TheVariants.{SensitiveText}
-use Rattle.xml.specs.declared.escape.Use.TheVariants.{Text as text_use}
-use Rattle.xml.specs.Escaping.{escaped}
-use Rattle.model.specs.Strings.{null}
+use Rattle.std.proofs.Common.{◌≡◌, true, ◌||◌, length, refl, eqb, rules}
 use Rattle.model.specs.Calls.{val_text}
 use Rattle.model.specs.Model.{content}
 use Rattle.engine.specs.Memory.{mem}
-use Rattle.rows.specs.Pieces.{Writes}
-use Rattle.rows.proofs.Elemental.{by_rule}
 use Rattle.rows.proofs.Wording.{may_stand, takes_content, spot_words}
 use Rattle.rows.proofs.words.text_at_content.Goals as goal
 
@@ -15,11 +9,8 @@ pub returns-then-is_empty : goal.returns-then-is_empty
 returns-then-is_empty g c =
     let w = mem c.args.core.now in
     let s = c.args.text.value.now in
-    let v = mem c.write_words.new.core in
-    let r = c.write_words.result in
     let may : (c.args.allowed || eqb (length s) 0) ≡ true = search rules in
     record {
       does = λ room ρ e.
-          spot_words (val_text ρ s) room w v c.requires.safe c.in_ok-check_bytes.ensures.checked refl (content c.args.allowed) c.requires.place (takes_content (val_text ρ s) c.args.allowed refl (may_stand s c.args.allowed may) refl refl) r (escaped (ρ.chooses text_use) s) (λ rs l ls. refl)
-          (by_rule (λ x. Writes r x SensitiveText (not (null x) || w.wordy) w v) ρ text_use s e c.write_words.ensures.writes);
+          spot_words (val_text ρ s) room w (mem c.write_words.new.core) c.requires.safe c.in_ok-check_bytes.ensures.checked refl (content c.args.allowed) c.requires.place (takes_content (val_text ρ s) c.args.allowed refl (may_stand s c.args.allowed may) refl refl) c.write_words.result ρ s e (λ rs l ls. refl) c.write_words.ensures.writes;
     }

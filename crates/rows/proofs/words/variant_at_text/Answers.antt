@@ -1,14 +1,11 @@
-use Rattle.std.proofs.Common.{cond, not, ◌||◌, [], Some, sym, refl, ap, ◌∙◌}
+use Rattle.std.proofs.Common.{cond, [], Some, sym, refl, ap, ◌∙◌}
 use Rattle.style.specs.declared.result.WriteResult.TheVariants.{SensitiveText}
 use Rattle.xml.specs.declared.escape.Use.TheVariants.{Text as text_use}
 use Rattle.xml.specs.Escaping.{escaped}
-use Rattle.model.specs.Strings.{null}
 use Rattle.model.specs.Calls.{val_variant}
 use Rattle.model.specs.Model.{text_spot}
 use Rattle.model.specs.Step.{done, with_text}
 use Rattle.engine.specs.Memory.{mem}
-use Rattle.rows.specs.Pieces.{Writes}
-use Rattle.rows.proofs.Elemental.{by_rule}
 use Rattle.rows.proofs.Wording.{no_words, takes_text, spot_silent, spot_words}
 use Rattle.rows.proofs.words.variant_at_text.Goals as goal
 
@@ -26,12 +23,9 @@ pub returns-else-is_text_name : goal.returns-else-is_text_name
 returns-else-is_text_name g c =
     let w = mem c.args.core.now in
     let s = c.args.name.value.now in
-    let v = mem c.write_words.new.core in
-    let r = c.write_words.result in
     let is = sym c.is_text_name.ensures.value ∙ c.if-is_text_name.false in
     record {
       does = λ room ρ e.
-          spot_words (val_variant ρ s) room w v c.requires.safe c.in_ok-check_bytes.ensures.checked refl text_spot c.requires.place (takes_text (val_variant ρ s) refl) r (escaped (ρ.chooses text_use) s)
-          (λ rs l ls. ap (λ t. Some (done SensitiveText (with_text l.body (cond t [] (escaped (ρ.chooses text_use) s))))) is)
-          (by_rule (λ x. Writes r x SensitiveText (not (null x) || w.wordy) w v) ρ text_use s e c.write_words.ensures.writes);
+          spot_words (val_variant ρ s) room w (mem c.write_words.new.core) c.requires.safe c.in_ok-check_bytes.ensures.checked refl text_spot c.requires.place (takes_text (val_variant ρ s) refl) c.write_words.result ρ s e
+          (λ rs l ls. ap (λ t. Some (done SensitiveText (with_text l.body (cond t [] (escaped (ρ.chooses text_use) s))))) is) c.write_words.ensures.writes;
     }
