@@ -17,6 +17,7 @@ use Rattle.model.specs.Table.{verdict, or_stay}
 use Rattle.engine.specs.Memory.{Mem, Safe, in_tag, placed, popped}
 use Rattle.engine.specs.Lays.{IsString, Lays, Beyond, setting, Told, Does}
 use Rattle.engine.proofs.Fronts.{front_as, past_same, past_set}
+use Rattle.engine.proofs.Strings.{alike}
 use Rattle.engine.proofs.Tags.{Tag, tag_grows, tag_past}
 use Rattle.engine.proofs.Begins.{lays_placed}
 use Rattle.engine.proofs.Telling.{told_small}
@@ -25,7 +26,6 @@ use Rattle.nests.proofs.Leaving.{front_pop, end_clear, end_small}
 use Rattle.attributes.specs.Inserts.{Inserts}
 use Rattle.attributes.proofs.Quotes.{quote_tag, quote_depth, quote_full, inserts_told, holds_attribute, stage_attribute}
 use Rattle.attributes.proofs.Standing.{several_frame}
-use Rattle.attributes.proofs.Valuing.{alike}
 
 -- more of the list's value
 several_more : (k s x : List ℕ) (t : Bool) → pending (several k s t) ++ x ≡ pending (several k (s ++ x) true)
@@ -60,7 +60,7 @@ item_written room w v t c ρ x r is at safe fine some y m lay =
     let here = quote (several k s t) l ls in
     let more = several_more k s bs t in
     inserts_told room (call_value c) (several k s t) l ls w v n bs r (AttributeItem true) (quote (several k (s ++ bs) true) l ls)
-    (record { order = refl; bytes = not_from_true (utf8 (value_string c)) (ap utf8 a.string ∙ fine); shape = a.item; text = and_right (is_text c) false refl; name = refl }) (record { brought = refl; takes = a.small; handed = refl })
+    (record { order = refl; bytes = not_from_true (utf8 (value_string c)) (ap utf8 a.string ∙ fine); shape = a.listed; text = and_right (is_text c) false refl; name = refl }) (record { brought = refl; takes = a.small; handed = refl })
     safe z (several_frame k s t l ls w h) (ap (λ o. or_stay here (requoted_if l ls o)) (a.several k s t ∙ ap Some (item_some k s x t chosen some))) refl
     (ap (λ p. tag_end i l ls p ++ flatten i l.body.kids) (sym more))
     (λ g.

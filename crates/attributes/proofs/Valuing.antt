@@ -1,23 +1,24 @@
 -- The value of an attribute: bytes behind its name and then the closing quote, or a list. Assumes nothing.
-use Rattle.std.proofs.Common.{◌≡◌, ℕ, ◌-◌, Bool, true, false, List, [], ◌∷◌, ◌++◌, Some, codes, Result, sym, refl, ap, ◌∙◌, subst, append_assoc, inl, inr}
+use Rattle.std.proofs.Common.{◌≡◌, ℕ, ◌-◌, true, false, List, [], ◌∷◌, ◌++◌, Some, codes, Result, sym, refl, ap, ◌∙◌, subst, append_assoc}
 use Rattle.std.proofs.lemmas.List.{append-nil}
 use Rattle.std.proofs.lemmas.Bool.{not_from_true, and_right}
 use Rattle.refusal.specs.declared.Refusal.{Refusal}
-use Rattle.xml.specs.declared.escape.Use.TheVariants.{Attribute as attribute_use, AttributeItem as attribute_item_use}
+use Rattle.xml.specs.declared.escape.Use.TheVariants.{Attribute as attribute_use}
 use Rattle.xml.specs.Escaping.{escaped}
 use Rattle.model.specs.declared.place.Place.TheVariants.{Field, Attribute, AttributeItem}
 use Rattle.model.specs.Strings.{utf8}
 use Rattle.model.specs.Calls.{Rule, Value, call_value, val_row}
 use Rattle.model.specs.Marks.{flatten}
 use Rattle.model.specs.Model.{single, several, between, quote}
-use Rattle.model.specs.Step.{closed, put_single, quoted_item, put_several, requoted_if, with_attribute, attribute}
+use Rattle.model.specs.Step.{closed, put_single, requoted_if, with_attribute, attribute}
 use Rattle.model.specs.Layout.{pending, tag_end, record_frame, outer_frames, list_frame}
-use Rattle.model.specs.Grounds.{value_string, is_text, no_text, no_item}
+use Rattle.model.specs.Grounds.{value_string, is_text, no_text}
 use Rattle.model.specs.Table.{verdict, or_stay, value_opens}
 use Rattle.engine.specs.Memory.{Mem, Safe, in_tag, pushed}
 use Rattle.engine.specs.Lays.{IsString, setting, Told, Does}
 use Rattle.engine.proofs.Fronts.{front_as, front_push}
 use Rattle.engine.proofs.Tags.{Tag}
+use Rattle.engine.proofs.Strings.{alike}
 use Rattle.engine.proofs.Begins.{lays_placed}
 use Rattle.engine.proofs.Spots.{on_attribute}
 use Rattle.nests.specs.Frames.{Pushes}
@@ -75,20 +76,7 @@ attribute_list room w v r safe at y m lay =
       fit = h.fit;
     })) y)
 
--- what the model says of a text and of a variant's name alike
-pub record Alike (c : Value) (ρ : Rule) (s : List ℕ) : Type 0 where
-  pub string : value_string c ≡ s
-  pub small : value_opens c ≡ false
-  pub shape : no_text c ≡ false
-  pub item : no_item c ≡ false
-  pub single : (k : List ℕ) → put_single k c ≡ Some (closed (attribute k (escaped (ρ.chooses attribute_use) s)))
-  pub several : (k v : List ℕ) (t : Bool) → put_several k v t c ≡ Some (quoted_item k v t (ρ.chooses attribute_item_use) s)
-
-pub alike : (c : Value) (ρ : Rule) (s : List ℕ) → IsString c ρ s → Alike c ρ s
-alike c ρ s (inl e) = rw e (record { string = refl; small = refl; shape = refl; item = refl; single = λ k. refl; several = λ k v t. refl })
-alike c ρ s (inr e) = rw e (record { string = refl; small = refl; shape = refl; item = refl; single = λ k. refl; several = λ k v t. refl })
-
--- such a value and its quote
+-- a text, or a variant's name, and its quote
 pub attribute_string : (room : ℕ) (w v : Mem) (c : Value) (ρ : Rule) (s : List ℕ) (r : Result (Unit {0}) Refusal) → IsString c ρ s → w.place ≡ Attribute → Safe w → utf8 s ≡ true → Inserts r (w.frames.used - 1) (escaped (ρ.chooses attribute_use) s ++ codes "\"") Field w v → Does (call_value c) room r w v
 attribute_string room w v c ρ s r is at safe fine y =
     let k = alike c ρ s is in

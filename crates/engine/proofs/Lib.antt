@@ -8,3 +8,4 @@ pub mod Tags
 pub mod Checking
 pub mod Tops
 pub mod Begins
+pub mod Strings

@@ -1,5 +1,5 @@
 -- An item of a list that is a text, whichever value it is. Assumes nothing.
-use Rattle.std.proofs.Common.{◌≡◌, ℕ, ◌+◌, ◌≤◌, Bool, true, false, cond, not, ◌||◌, eqb, List, [], ◌∷◌, ◌++◌, length, Some, Ok, Err, Result, sym, refl, ap, ◌∙◌, subst, ⊎_elim, arith}
+use Rattle.std.proofs.Common.{◌≡◌, ℕ, ◌+◌, ◌≤◌, Bool, true, false, cond, not, ◌||◌, eqb, List, [], ◌∷◌, ◌++◌, length, Some, Ok, Err, Result, sym, refl, ap, ◌∙◌, subst, arith}
 use Rattle.std.proofs.lemmas.List.{length-append}
 use Rattle.std.proofs.lemmas.Bool.{not_from_true, and_right, both_ways}
 use Rattle.refusal.specs.declared.Refusal.{Refusal}
@@ -12,31 +12,20 @@ use Rattle.model.specs.Strings.{null, utf8}
 use Rattle.model.specs.Calls.{Rule, Value, call_value}
 use Rattle.model.specs.Marks.{flatten, texted}
 use Rattle.model.specs.Model.{Body, Level, Row, Outer, words, between, inside}
-use Rattle.model.specs.Step.{on, put_word, item, gap, with_body, moved_if}
+use Rattle.model.specs.Step.{on, item, gap, with_body, moved_if}
 use Rattle.model.specs.Layout.{stage}
-use Rattle.model.specs.Grounds.{no_item, is_text, value_string}
-use Rattle.model.specs.Table.{verdict, next, or_stay, value_opens}
+use Rattle.model.specs.Grounds.{is_text, value_string}
+use Rattle.model.specs.Table.{verdict, next, or_stay}
 use Rattle.model.proofs.Flatten.{flatten_texted}
 use Rattle.engine.specs.Memory.{Mem, Safe, appended, worded, placed}
 use Rattle.engine.specs.Lays.{IsString, Holds, Lays, Beyond, setting, Told, Does}
 use Rattle.engine.proofs.Fronts.{front_length, past_same, past_grown}
 use Rattle.engine.proofs.Kids.{more_kids, stage_kids, holds_kids}
 use Rattle.engine.proofs.Spots.{on_word}
+use Rattle.engine.proofs.Strings.{alike}
 use Rattle.engine.proofs.Telling.{Clear, Small, told_small, told_small_full}
 use Rattle.rows.proofs.Elemental.{by_rule}
 use Rattle.fields.specs.Items.{Adds}
-
--- what is asked of an item, the same for both values
-record Item (c : Value) (r : Rule) (s : List ℕ) : Type 0 where
-  string : value_string c ≡ s
-  shape : no_item c ≡ false
-  opens : value_opens c ≡ false
-  puts : (t : Bool) (b : Body) → put_word t b c ≡ Some (item t b (r.chooses text_item_use) s)
-
-items : (c : Value) (r : Rule) (s : List ℕ) → IsString c r s → Item c r s
-items c r s is =
-    ⊎_elim (λ e. subst (λ x. Item x r s) (sym e) (record { string = refl; shape = refl; opens = refl; puts = λ t b. refl }))
-    (λ e. subst (λ x. Item x r s) (sym e) (record { string = refl; shape = refl; opens = refl; puts = λ t b. refl })) is
 
 -- an item that is not empty has bytes
 null_cond : (t : Bool) (x y : List ℕ) → null x ≡ false → null y ≡ false → null (cond t x y) ≡ false
@@ -75,18 +64,18 @@ lays_item t bs rs l ls w room h =
 module _ (c : Value) (r : Rule) (s : List ℕ) (is : IsString c r s) (room : ℕ) (t : Bool) (w v : Mem) (at : w.place ≡ TextItem t) (safe : Safe w) (fine : utf8 s ≡ true) (some : length s ≡ 0 → ⊥) where
   clear : (rs : List Row) (l : Level) (ls : List Outer) → Clear (call_value c) (inside (words t) rs l ls)
   clear rs l ls =
-      let i = items c r s is in
-      record { order = refl; bytes = not_from_true (utf8 (value_string c)) (ap utf8 i.string ∙ fine); shape = i.shape; text = and_right (is_text c) false refl; name = refl }
+      let a = alike c r s is in
+      record { order = refl; bytes = not_from_true (utf8 (value_string c)) (ap utf8 a.string ∙ fine); shape = a.listed; text = and_right (is_text c) false refl; name = refl }
 
   small : (rs : List Row) (l : Level) (ls : List Outer) → Small (call_value c) (inside (words t) rs l ls) w
-  small rs l ls = record { brought = refl; takes = (items c r s is).opens; handed = refl }
+  small rs l ls = record { brought = refl; takes = (alike c r s is).small; handed = refl }
 
   abbrev item_bytes : List ℕ
   item_bytes = gap t ++ escaped (r.chooses text_item_use) s
 
   item_next : (rs : List Row) (l : Level) (ls : List Outer) → next w.form (call_value c) (inside (words t) rs l ls) ≡ inside (words true) rs (with_body l (more_kids l.body (texted item_bytes) true)) ls
   item_next rs l ls =
-      ap (λ o. or_stay (inside (words t) rs l ls) (moved_if rs l ls o)) ((items c r s is).puts t l.body ∙ ap Some (item_on t l.body (r.chooses text_item_use) s some))
+      ap (λ o. or_stay (inside (words t) rs l ls) (moved_if rs l ls o)) ((alike c r s is).word t l.body ∙ ap Some (item_on t l.body (r.chooses text_item_use) s some))
 
   item_told : (res : Result (Unit {0}) Refusal) → Adds res (gap t ++ escaped (r.chooses text_item_use) s) w v → Does (call_value c) room res w v
   item_told (Ok x) h m lay =
