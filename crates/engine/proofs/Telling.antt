@@ -36,41 +36,72 @@ pub record Small (c : Call) (m : State) (w : Mem) : Type 0 where
   pub takes : takes_frame c ≡ false
   pub handed : handed w.indentation c m ≡ []
 
--- the verdict by the nine grounds
-abbrev decided : Bool → Bool → Bool → Bool → Option ℕ → Bool → Bool → Bool → Bool → ℕ → State → Verdict
-decided a b c d o e f g h k m =
-    judged (first (when a Order ∷ when b (BytesAt k) ∷ when c Shape ∷ when d RunOn ∷ fault_at o ∷ when e Stack ∷ when f Depth ∷ when g Stage ∷ when h Sink ∷ [])) m
+-- what each of the nine grounds says of a call, and the offset that the second tells
+record Grounds : Type 0 where
+  order : Bool
+  bytes : Bool
+  shape : Bool
+  text : Bool
+  name : Option ℕ
+  names : Bool
+  depth : Bool
+  stage : Bool
+  sink : Bool
+  upto : ℕ
 
-module _ (a b c d : Bool) (o : Option ℕ) (e f g h : Bool) (k : ℕ) (m : State) where
-  on_name : (j : ℕ) → a ≡ false → b ≡ false → c ≡ false → d ≡ false → o ≡ Some j → decided a b c d o e f g h k m ≡ refuse (NameAt j)
-  on_name j p q r s t = rw (p, q, r, s, t)
+abbrev decided : Grounds → State → Verdict
+decided g m =
+    judged (first (when g.order Order ∷ when g.bytes (BytesAt g.upto) ∷ when g.shape Shape ∷ when g.text RunOn ∷ fault_at g.name ∷ when g.names Stack ∷ when g.depth Depth ∷ when g.stage Stage ∷ when g.sink Sink ∷ [])) m
 
-  on_stack : a ≡ false → b ≡ false → c ≡ false → d ≡ false → o ≡ None → e ≡ true → decided a b c d o e f g h k m ≡ refuse Stack
-  on_stack p q r s t u = rw (p, q, r, s, t, u)
+module _ (g : Grounds) (m : State) where
+  on_order : g.order ≡ true → decided g m ≡ refuse Order
+  on_order p = rw p
 
-  on_depth : a ≡ false → b ≡ false → c ≡ false → d ≡ false → o ≡ None → e ≡ false → f ≡ true → decided a b c d o e f g h k m ≡ refuse Depth
-  on_depth p q r s t u v = rw (p, q, r, s, t, u, v)
+  module _ (p : g.order ≡ false) (q : g.bytes ≡ false) (r : g.shape ≡ false) (s : g.text ≡ false) where
+    on_name : (j : ℕ) → g.name ≡ Some j → decided g m ≡ refuse (NameAt j)
+    on_name j t = rw (p, q, r, s, t)
 
-  on_stage : a ≡ false → b ≡ false → c ≡ false → d ≡ false → o ≡ None → e ≡ false → f ≡ false → g ≡ true → decided a b c d o e f g h k m ≡ refuse Stage
-  on_stage p q r s t u v x = rw (p, q, r, s, t, u, v, x)
+    module _ (t : g.name ≡ None) where
+      on_stack : g.names ≡ true → decided g m ≡ refuse Stack
+      on_stack u = rw (p, q, r, s, t, u)
 
-  on_sink : a ≡ false → b ≡ false → c ≡ false → d ≡ false → o ≡ None → e ≡ false → f ≡ false → g ≡ false → h ≡ true → decided a b c d o e f g h k m ≡ refuse Sink
-  on_sink p q r s t u v x y = rw (p, q, r, s, t, u, v, x, y)
+      on_depth : g.names ≡ false → g.depth ≡ true → decided g m ≡ refuse Depth
+      on_depth u v = rw (p, q, r, s, t, u, v)
 
-  on_none : a ≡ false → b ≡ false → c ≡ false → d ≡ false → o ≡ None → e ≡ false → f ≡ false → g ≡ false → h ≡ false → decided a b c d o e f g h k m ≡ accept m
-  on_none p q r s t u v x y = rw (p, q, r, s, t, u, v, x, y)
+      on_stage : g.names ≡ false → g.depth ≡ false → g.stage ≡ true → decided g m ≡ refuse Stage
+      on_stage u v x = rw (p, q, r, s, t, u, v, x)
+
+      on_sink : g.names ≡ false → g.depth ≡ false → g.stage ≡ false → g.sink ≡ true → decided g m ≡ refuse Sink
+      on_sink u v x y = rw (p, q, r, s, t, u, v, x, y)
+
+      on_none : g.names ≡ false → g.depth ≡ false → g.stage ≡ false → g.sink ≡ false → decided g m ≡ accept m
+      on_none u v x y = rw (p, q, r, s, t, u, v, x, y)
 
 module _ (w : Mem) (room : ℕ) (c : Call) (m : State) where
+  abbrev grounds : Grounds
+  grounds = record {
+    order = out_of_order c m;
+    bytes = ill_formed c;
+    shape = misshapen c m;
+    text = runs_on c m;
+    name = misnamed c m;
+    names = stack_full (setting w) c m;
+    depth = too_deep (setting w) c m;
+    stage = stage_full (setting w) c m;
+    sink = sink_full (setting w) room c m;
+    upto = whole (string_of c);
+  }
+
   -- a refusal leaves all as it was
   told_by : (e : Refusal) → verdict (setting w) room c m ≡ refuse e → Told (verdict (setting w) room c m) (Err e) w w
   told_by e h = subst (λ v. Told v (Err e) w w) (sym h) (refl, refl)
 
   pub told_order : out_of_order c m ≡ true → Told (verdict (setting w) room c m) (Err Order) w w
-  told_order h = told_by Order (ap (λ a. decided a (ill_formed c) (misshapen c m) (runs_on c m) (misnamed c m) (stack_full (setting w) c m) (too_deep (setting w) c m) (stage_full (setting w) c m) (sink_full (setting w) room c m) (whole (string_of c)) (next w.form c m)) h)
+  told_order h = told_by Order (on_order grounds (next w.form c m) h)
 
   pub told_name : (j : ℕ) → out_of_order c m ≡ false → ill_formed c ≡ false → misshapen c m ≡ false → runs_on c m ≡ false → misnamed c m ≡ Some j → Told (verdict (setting w) room c m) (Err (NameAt j)) w w
   told_name j p q r s t =
-      told_by (NameAt j) (on_name (out_of_order c m) (ill_formed c) (misshapen c m) (runs_on c m) (misnamed c m) (stack_full (setting w) c m) (too_deep (setting w) c m) (stage_full (setting w) c m) (sink_full (setting w) room c m) (whole (string_of c)) (next w.form c m) j p q r s t)
+      told_by (NameAt j) (on_name grounds (next w.form c m) p q r s j t)
 
   -- the sizes are the slices' lengths
   stack_is_full : Safe w → Front w.names (names m) → length w.names.all < w.names.used + length (name_brought c m) → stack_full (setting w) c m ≡ true
@@ -97,25 +128,21 @@ module _ (w : Mem) (room : ℕ) (c : Call) (m : State) where
 
   pub told_stack : Clear c m → Safe w → Holds m w → length w.names.all < w.names.used + length (name_brought c m) → Told (verdict (setting w) room c m) (Err Stack) w w
   told_stack k s l h =
-      told_by Stack (on_stack (out_of_order c m) (ill_formed c) (misshapen c m) (runs_on c m) (misnamed c m) (stack_full (setting w) c m) (too_deep (setting w) c m) (stage_full (setting w) c m) (sink_full (setting w) room c m) (whole (string_of c)) (next w.form c m)
-      k.order k.bytes k.shape k.text k.name (stack_is_full s l.names h))
+      told_by Stack (on_stack grounds (next w.form c m) k.order k.bytes k.shape k.text k.name (stack_is_full s l.names h))
 
   pub told_depth : Clear c m → Safe w → Holds m w → w.names.used + length (name_brought c m) ≤ length w.names.all → takes_frame c ≡ true → length w.frames.all ≤ w.frames.used → Told (verdict (setting w) room c m) (Err Depth) w w
   told_depth k s l n t h =
-      told_by Depth (on_depth (out_of_order c m) (ill_formed c) (misshapen c m) (runs_on c m) (misnamed c m) (stack_full (setting w) c m) (too_deep (setting w) c m) (stage_full (setting w) c m) (sink_full (setting w) room c m) (whole (string_of c)) (next w.form c m)
-      k.order k.bytes k.shape k.text k.name (stack_is_free s l.names n) (depth_is_full s l.frames t h))
+      told_by Depth (on_depth grounds (next w.form c m) k.order k.bytes k.shape k.text k.name (stack_is_free s l.names n) (depth_is_full s l.frames t h))
 
   pub told_stage : Clear c m → Safe w → Holds m w → w.names.used + length (name_brought c m) ≤ length w.names.all → too_deep (setting w) c m ≡ false → length w.stage.all < length (stage w.indentation (next w.form c m)) → Told (verdict (setting w) room c m) (Err Stage) w w
   told_stage k s l n d h =
       let full : stage_full (setting w) c m ≡ true =
       lt-ltb (min (length w.stage.all) 65536 - length (stage w.indentation m)) (length (stage w.indentation (next w.form c m)) - length (stage w.indentation m)) (omega (arith, s.stage_size, front_length w.stage (stage w.indentation m) l.stage, l.stage.fits, h)) in
-      told_by Stage (on_stage (out_of_order c m) (ill_formed c) (misshapen c m) (runs_on c m) (misnamed c m) (stack_full (setting w) c m) (too_deep (setting w) c m) (stage_full (setting w) c m) (sink_full (setting w) room c m) (whole (string_of c)) (next w.form c m)
-      k.order k.bytes k.shape k.text k.name (stack_is_free s l.names n) d full)
+      told_by Stage (on_stage grounds (next w.form c m) k.order k.bytes k.shape k.text k.name (stack_is_free s l.names n) d full)
 
   pub told_sink : Clear c m → Safe w → Holds m w → w.names.used + length (name_brought c m) ≤ length w.names.all → too_deep (setting w) c m ≡ false → stage_full (setting w) c m ≡ false → room < length (handed w.indentation c m) → Told (verdict (setting w) room c m) (Err Sink) w w
   told_sink k s l n d g h =
-      told_by Sink (on_sink (out_of_order c m) (ill_formed c) (misshapen c m) (runs_on c m) (misnamed c m) (stack_full (setting w) c m) (too_deep (setting w) c m) (stage_full (setting w) c m) (sink_full (setting w) room c m) (whole (string_of c)) (next w.form c m)
-      k.order k.bytes k.shape k.text k.name (stack_is_free s l.names n) d g (lt-ltb room (length (handed w.indentation c m)) h))
+      told_by Sink (on_sink grounds (next w.form c m) k.order k.bytes k.shape k.text k.name (stack_is_free s l.names n) d g (lt-ltb room (length (handed w.indentation c m)) h))
 
   -- that it fits follows from what the memory then holds
   pub told_ok : (v : Mem) → Clear c m → Safe w → Holds m w → w.names.used + length (name_brought c m) ≤ length w.names.all → too_deep (setting w) c m ≡ false → sink_full (setting w) room c m ≡ false → Lays (next w.form c m) v → Beyond w v → Told (verdict (setting w) room c m) (Ok tt) w v
@@ -125,8 +152,7 @@ module _ (w : Mem) (room : ℕ) (c : Call) (m : State) where
       let free : stage_full (setting w) c m ≡ false =
       le-ltb (min (length w.stage.all) 65536 - length (stage w.indentation m)) (length (stage w.indentation m') - length (stage w.indentation m))
       (omega (arith, s.stage_size, i, front_length v.stage (stage v.indentation m') lay.holds.stage, lay.holds.stage.fits, b.stage.size)) in
-      let e = on_none (out_of_order c m) (ill_formed c) (misshapen c m) (runs_on c m) (misnamed c m) (stack_full (setting w) c m) (too_deep (setting w) c m) (stage_full (setting w) c m) (sink_full (setting w) room c m) (whole (string_of c)) m'
-      k.order k.bytes k.shape k.text k.name (stack_is_free s l.names n) d free z in
+      let e : verdict (setting w) room c m ≡ accept m' = on_none grounds m' k.order k.bytes k.shape k.text k.name (stack_is_free s l.names n) d free z in
       subst (λ x. Told x (Ok tt) w v) (sym e) (refl, lay, b)
 
   -- for a call that brings no name, takes no frame and hands nothing on
