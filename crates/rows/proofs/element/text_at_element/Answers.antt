@@ -18,5 +18,5 @@ returns-else-is_empty g c =
     let some : length s ≡ 0 → ⊥ = search rules in
     record {
       does = λ room ρ e.
-          element_text (val_text ρ s) room c.args.from w (mem c.write_text.new.core) c.write_text.result c.requires.place c.requires.safe ρ s e c.in_ok-check_bytes.ensures.checked refl refl (text_some ρ s some) c.write_text.ensures.writes;
+          element_text (val_text ρ s) room c.args.from w (mem c.write_text.new.core) c.write_text.result c.requires.place c.requires.safe c.in_ok-check_bytes.ensures.checked refl refl ρ s e (text_some ρ s some) c.write_text.ensures.writes;
     }

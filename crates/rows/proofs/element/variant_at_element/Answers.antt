@@ -16,5 +16,5 @@ returns-else-is_text_name g c =
     let s = c.args.name.value.now in
     record {
       does = λ room ρ e.
-          element_text (val_variant ρ s) room c.args.from w (mem c.write_text.new.core) c.write_text.result c.requires.place c.requires.safe ρ s e c.in_ok-check_bytes.ensures.checked refl refl (variant_child ρ s false (sym c.is_text_name.ensures.value ∙ c.if-is_text_name.false)) c.write_text.ensures.writes;
+          element_text (val_variant ρ s) room c.args.from w (mem c.write_text.new.core) c.write_text.result c.requires.place c.requires.safe c.in_ok-check_bytes.ensures.checked refl refl ρ s e (variant_child ρ s false (sym c.is_text_name.ensures.value ∙ c.if-is_text_name.false)) c.write_text.ensures.writes;
     }
