@@ -1,15 +1,17 @@
-// The writer behind a C name, for a clock outside.
+// The writer behind one C name, for a clock outside: bench/ times it beside other writers.
 #![tactic(auto)]
+
+ghost use Rattle.std.specs.Prelude.{◌≡◌};
 
 use model::Frame;
 use refusal::Refusal;
 use sink::BufferSink;
 use std::alloc::Global;
 use style::{EmptyElementHandling, Style};
-use writer::{Call, Ticket, Value, Writer};
+use writer::{Call, Value, Writer};
 use xml::QuoteLevel;
 
-/// One step of a record: its kind, and where its bytes stand in the text.
+/// One call of a record: its kind, and where the bytes that it brings stand in a text.
 #[repr(C)]
 #[derive(Clone, Copy)]
 pub struct Step {
@@ -18,6 +20,7 @@ pub struct Step {
     pub end: u32,
 }
 
+// The call that a step is; none where its bytes lie past the text.
 fn call_of<'t>(step: Step, text: &'t [u8]) -> Option<Call<'t, QuoteLevel>> {
     let bytes = text.get(step.from as usize..step.end as usize)?;
     Some(match step.kind {
@@ -29,7 +32,8 @@ fn call_of<'t>(step: Step, text: &'t [u8]) -> Option<Call<'t, QuoteLevel>> {
     })
 }
 
-fn make(writer: &mut Writer<'_>, calls: &[Call<'_, QuoteLevel>]) -> Result<(), Refusal> {
+// The calls behind the first, up to one that is refused.
+fn fill(writer: &mut Writer<'_>, calls: &[Call<'_, QuoteLevel>]) -> Result<(), Refusal> {
     for call in calls {
         match call {
             Call::Field(key) => writer.field(key)?,
@@ -41,24 +45,23 @@ fn make(writer: &mut Writer<'_>, calls: &[Call<'_, QuoteLevel>]) -> Result<(), R
     Ok(())
 }
 
-fn put(writer: &mut Writer<'_>, sink: &mut BufferSink<'_>, calls: &[Call<'_, QuoteLevel>]) {
-    if let [Call::Open(name), rest @ ..] = calls {
-        if let Ok(ticket) = writer.open(name) {
-            let whole = make(writer, rest).is_ok();
-            let left = if whole {
-                match writer.finish(ticket, sink) {
-                    Ok(()) => None,
-                    Err(refused) => Some(refused.1),
-                }
-            } else {
-                Some(ticket)
-            };
-            writer.close(left);
-        }
+// One record, into the sink where none of its calls is refused.
+fn write(writer: &mut Writer<'_>, sink: &mut BufferSink<'_>, calls: &[Call<'_, QuoteLevel>]) {
+    let [Call::Open(name), rest @ ..] = calls else {
+        return;
+    };
+    let Ok(ticket) = writer.open(name) else {
+        return;
+    };
+    if fill(writer, rest).is_err() {
+        return writer.close(Some(ticket));
     }
+    let left = writer.finish(ticket, sink).err().map(|refused| refused.1);
+    writer.close(left);
 }
 
-/// Writes the record so many times, each time from a new writer into an empty buffer, and answers how long it is.
+/// Writes a record so many times, each time by a new writer over the same memory into the front of `out`, and answers how many
+/// bytes stand there in the end: 0 where a call was refused.
 #[unsafe(no_mangle)]
 pub extern "C" fn timed_write(
     heap: Global,
@@ -68,13 +71,16 @@ pub extern "C" fn timed_write(
     names: &mut [u8],
     out: &mut [u8],
     times: usize,
-) -> usize {
+) -> usize
+    ensures never { times ≡ 0 → result ≡ 0 }
+{
     let mut calls = Vec::new(heap);
     for step in steps {
-        if let Some(call) = call_of(*step, text) {
-            if calls.push(call).is_err() {
-                return 0;
-            }
+        let Some(call) = call_of(*step, text) else {
+            return 0;
+        };
+        if calls.push(call).is_err() {
+            return 0;
         }
     }
     let Ok(style) = Style::new(EmptyElementHandling::SelfClosed, None) else {
@@ -85,7 +91,7 @@ pub extern "C" fn timed_write(
     for _ in 0..times {
         let mut sink = BufferSink::new(out);
         let mut writer = Writer::new(style, stage, names, &mut frames);
-        put(&mut writer, &mut sink, &calls);
+        write(&mut writer, &mut sink, &calls);
         len = sink.held().len();
     }
     len
