@@ -16,9 +16,9 @@ use std::time::Instant;
 
 const STAGE: usize = 65_536;
 const NAMES: usize = 4_096;
-// Bytes that each turn writes, and turns: the fastest counts.
-const BYTES: usize = 8_000_000;
-const TURNS: usize = 7;
+// How many bytes each turn writes at least, and the turns, of which the fastest counts: short ones, so that some are undisturbed.
+const BYTES: usize = 1_000_000;
+const TURNS: usize = 60;
 
 unsafe extern "C" {
     fn timed_write(
@@ -46,7 +46,11 @@ struct Lent {
 
 impl Lent {
     fn new() -> Lent {
-        Lent { stage: vec![0; STAGE], names: vec![0; NAMES], out: vec![0; STAGE] }
+        Lent {
+            stage: vec![0; STAGE],
+            names: vec![0; NAMES],
+            out: vec![0; STAGE],
+        }
     }
 
     fn write(&mut self, calls: &Steps, times: usize) -> usize {
@@ -91,7 +95,10 @@ impl Packaged {
             }
             Value::Record(inner) => (&*key.clone().leak(), Field::Record(Packaged::of(inner))),
         });
-        Packaged { name: record.name, fields: fields.collect() }
+        Packaged {
+            name: record.name,
+            fields: fields.collect(),
+        }
     }
 }
 
@@ -138,8 +145,17 @@ impl Ops {
     }
 
     fn add(&mut self, kind: c_int, name: &str, text: &str) {
-        let text_of = |text: &str| CString::new(text).expect("no byte is 0").into_raw().cast_const();
-        self.ops.push(Op { kind, name: text_of(name), text: text_of(text) });
+        let text_of = |text: &str| {
+            CString::new(text)
+                .expect("no byte is 0")
+                .into_raw()
+                .cast_const()
+        };
+        self.ops.push(Op {
+            kind,
+            name: text_of(name),
+            text: text_of(text),
+        });
     }
 
     fn element(&mut self, name: &str, record: &Record) {
@@ -182,7 +198,9 @@ fn timed_by(program: &str, script: &str, times: usize) -> (f64, usize) {
                 .spawn()
                 .expect("the program for the crate starts");
             let mut input = child.stdin.take().expect("its input is a pipe");
-            input.write_all(script.as_bytes()).expect("it reads its input");
+            input
+                .write_all(script.as_bytes())
+                .expect("it reads its input");
             drop(input);
             let answer = child.wait_with_output().expect("it ends").stdout;
             let answer = String::from_utf8(answer).expect("it prints text");
@@ -194,48 +212,109 @@ fn timed_by(program: &str, script: &str, times: usize) -> (f64, usize) {
             let records: f64 = records.parse().expect("a number");
             (total / records, len.parse().expect("a number"))
         })
-        .fold((f64::INFINITY, 0), |best, next| if next.0 < best.0 { next } else { best })
+        .fold((f64::INFINITY, 0), |best, next| {
+            if next.0 < best.0 { next } else { best }
+        })
 }
 
-fn main() {
-    let ported = std::env::args().nth(1);
-    println!("| Size | Form | Escapes | Attributes | Bytes | Ours, ns | ns/byte | Crate/ours | Packaged/ours | libxml2/ours |");
-    println!("|---|---|---|---|---|---|---|---|---|---|");
-    let mut lent = Lent::new();
-    for shape in Shape::all() {
-        let mut probe = Lent::new();
-        let len = |record: &Record| probe_len(record);
-        let record = shape.record(len);
+/// What one record took.
+struct Row {
+    shape: Shape,
+    bytes: usize,
+    ours: f64,
+    ported: Option<f64>,
+    packaged: f64,
+    libxml: f64,
+}
+
+impl Row {
+    fn of(shape: Shape, lent: &mut Lent, ported: Option<&str>) -> Row {
+        let record = shape.record(length);
         let calls = Steps::of(&record);
-        let bytes = probe.write(&calls, 1);
-        assert!(bytes > 0, "{}", shape.label());
-        let times = BYTES / bytes;
+        let bytes = lent.write(&calls, 1);
+        let times = BYTES.div_ceil(bytes);
         let ours = timed(times, |times| lent.write(&calls, times));
         let packaged_record = Packaged::of(&record);
         let mut out = Vec::new();
-        let packaged = timed(times, |times| packaged_write(&packaged_record, &mut out, times));
+        let packaged = timed(times, |times| {
+            packaged_write(&packaged_record, &mut out, times)
+        });
         let ops = Ops::of(&record).ops;
-        let libxml = timed(times, |times| unsafe { libxml_write(ops.as_ptr(), ops.len(), times) });
-        let crate_ratio = match &ported {
-            Some(program) => {
-                let (nanoseconds, len) = timed_by(program, &script(&record), times);
-                assert_eq!(len, bytes, "{}", shape.label());
-                format!("{:.2}", nanoseconds / ours)
-            }
-            None => "-".to_string(),
-        };
+        let libxml = timed(times, |times| unsafe {
+            libxml_write(ops.as_ptr(), ops.len(), times)
+        });
+        let ported = ported.map(|program| {
+            let (nanoseconds, length) = timed_by(program, &script(&record), times);
+            assert_eq!(length, bytes, "{}", shape.label());
+            nanoseconds
+        });
+        Row {
+            shape,
+            bytes,
+            ours,
+            ported,
+            packaged,
+            libxml,
+        }
+    }
+
+    fn per_byte(&self) -> f64 {
+        self.ours / self.bytes as f64
+    }
+
+    fn print(&self) {
+        let ratio = |other: f64| format!("{:.2}", other / self.ours);
         println!(
-            "| {} | {bytes} | {ours:.0} | {:.3} | {crate_ratio} | {:.2} | {:.2} |",
-            shape.label(),
-            ours / bytes as f64,
-            packaged / ours,
-            libxml / ours,
+            "| {} | {} | {:.0} | {:.2} | {} | {} | {} |",
+            self.shape.label(),
+            self.bytes,
+            self.ours,
+            self.per_byte(),
+            self.ported.map_or("-".to_string(), ratio),
+            ratio(self.packaged),
+            ratio(self.libxml),
         );
     }
 }
 
-// How long a record is that our writer writes.
-fn probe_len(record: &Record) -> usize {
-    let len = Lent::new().write(&Steps::of(record), 1);
-    if len == 0 { usize::MAX } else { len }
+fn main() {
+    let ported = std::env::args().nth(1);
+    let mut lent = Lent::new();
+    println!(
+        "| Size | Form | Escapes | Attributes | Bytes | Ours, ns | ns/byte | Crate/ours | Packaged/ours | libxml2/ours |"
+    );
+    println!("|---|---|---|---|---|---|---|---|---|---|");
+    let rows: Vec<Row> = Shape::all()
+        .into_iter()
+        .map(|shape| {
+            let row = Row::of(shape, &mut lent, ported.as_deref());
+            row.print();
+            row
+        })
+        .collect();
+    println!();
+    for large in rows.iter().filter(|row| row.shape.size == 60_000) {
+        let small = rows.iter().find(|row| {
+            row.shape
+                == Shape {
+                    size: 2_000,
+                    ..large.shape
+                }
+        });
+        if let Some(small) = small {
+            let ratio = large.per_byte() / small.per_byte();
+            println!(
+                "time per byte to that at 2 KB: {ratio:.2} | {}",
+                large.shape.label()
+            );
+        }
+    }
+}
+
+// How long a record is as our writer writes it; one that it refuses is too long.
+fn length(record: &Record) -> usize {
+    match Lent::new().write(&Steps::of(record), 1) {
+        0 => usize::MAX,
+        length => length,
+    }
 }

@@ -12,7 +12,7 @@ pub enum Value {
 }
 
 /// What sets one record apart from another.
-#[derive(Clone, Copy)]
+#[derive(Clone, Copy, PartialEq, Eq)]
 pub struct Shape {
     pub size: usize,
     pub nested: bool,
@@ -27,7 +27,12 @@ impl Shape {
             for nested in [false, true] {
                 for many_escapes in [false, true] {
                     for late_attributes in [false, true] {
-                        all.push(Shape { size, nested, many_escapes, late_attributes });
+                        all.push(Shape {
+                            size,
+                            nested,
+                            many_escapes,
+                            late_attributes,
+                        });
                     }
                 }
             }
@@ -43,16 +48,31 @@ impl Shape {
         };
         let form = if self.nested { "nested" } else { "flat" };
         let escapes = if self.many_escapes { "many" } else { "few" };
-        let attributes = if self.late_attributes { "late" } else { "early" };
+        let attributes = if self.late_attributes {
+            "late"
+        } else {
+            "early"
+        };
         format!("{size} | {form} | {escapes} | {attributes}")
     }
 
     // Trail names and remarks of 12 to 40 bytes; every fifth has an `&`, or every one four bytes that are escaped.
     fn text(&self, turn: usize) -> String {
         const WORDS: [&str; 8] = [
-            "Alpe", "Höhenweg", "Tal", "bridge closed", "via ferrata", "Rast", "north face", "ford",
+            "Alpe",
+            "Höhenweg",
+            "Tal",
+            "bridge closed",
+            "via ferrata",
+            "Rast",
+            "north face",
+            "ford",
         ];
-        let (a, b, c) = (WORDS[turn % 8], WORDS[(turn * 3 + 1) % 8], WORDS[(turn * 5 + 2) % 8]);
+        let (a, b, c) = (
+            WORDS[turn % 8],
+            WORDS[(turn * 3 + 1) % 8],
+            WORDS[(turn * 5 + 2) % 8],
+        );
         match (self.many_escapes, turn % 5) {
             (true, _) => format!("<{a}> {b} & \"{c}\" & more"),
             (false, 0) => format!("{a} & {b} {c}"),
@@ -82,7 +102,11 @@ impl Shape {
             return self.leaf("sheet", 1, count);
         }
         let mut root = self.leaf("sheet", 1, 1);
-        let own = if self.late_attributes { 1 } else { root.fields.len() };
+        let own = if self.late_attributes {
+            1
+        } else {
+            root.fields.len()
+        };
         let sections = (0..count).map(|turn| {
             let mut section = self.leaf("section", turn, 2);
             let inner = self.leaf("edition", turn + 1, 1);
@@ -141,7 +165,11 @@ impl Steps {
     fn add(&mut self, kind: u32, text: &str) {
         let from = self.text.len() as u32;
         self.text.extend(text.as_bytes());
-        self.steps.push(Step { kind, from, end: self.text.len() as u32 });
+        self.steps.push(Step {
+            kind,
+            from,
+            end: self.text.len() as u32,
+        });
     }
 
     fn fields(&mut self, record: &Record) {
