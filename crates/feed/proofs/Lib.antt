@@ -1,1 +1,2 @@
 mod Making
+pub mod Sections

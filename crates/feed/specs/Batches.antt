@@ -53,6 +53,12 @@ pub record Sets (old : Batch) (n : ℕ) (line : Line) (new : Batch) : Type 0 whe
   pub calls : vec_items new.calls ≡ vec_items old.calls
   pub reports : new.reported ≡ old.reported || says_something line
 
+-- the settings and the calls are as before
+pub record Stays (old new : Batch) : Type 0 where
+  pub setup : new.setup ≡ old.setup
+  pub calls : vec_items new.calls ≡ vec_items old.calls
+  pub reports : new.reported ≡ old.reported
+
 -- what is handed out for line n, which plays this part, and the batch after it: `new` hands out the batch before it and begins one
 abbrev pub GoesAs : Role → Option Batch → Batch → ℕ → Line → Batch → Type 0
 GoesAs Starts done old n line new = (done ≡ Some old) × Begins new n true

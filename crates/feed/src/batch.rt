@@ -2,7 +2,8 @@
 ghost use Rattle.std.specs.Prelude.{◌≡◌, true, false, OnOk, OnErr, IfOk};
 ghost use Rattle.script.specs.Order.{role};
 ghost use Rattle.script.specs.declared.order.Role.TheVariants.{Calls};
-ghost use Rattle.feed.specs.Batches.{says_something, Begins, AddsCall, Sets, Goes};
+ghost use Rattle.feed.specs.Batches.{says_something, Begins, AddsCall, Sets, Stays, Goes};
+ghost use Rattle.feed.specs.Sections.{IsBatchOf, at_start, Extends};
 
 use crate::call_line::CallLine;
 use crate::setup::Setup;
@@ -41,6 +42,7 @@ impl Batch {
     /// The batch of the writer that is there at the start.
     pub fn at_start(heap: Global) -> Batch
         ensures begins { Begins result 1 false }
+        ensures section { IsBatchOf at_start result }
     {
         Batch::beginning(heap, 1, false)
     }
@@ -49,7 +51,7 @@ impl Batch {
     fn add_call(&mut self, numbered: Numbered) -> Result<(), AllocError>
         requires calls { role numbered.line ≡ Calls }
         ensures ok { OnOk result (AddsCall self.old numbered.number numbered.line self.new) }
-        ensures err { OnErr result (self.new.calls.items ≡ self.old.calls.items) }
+        ensures err { OnErr result (Stays self.old self.new) }
     {
         self.calls.push(CallLine {
             number: numbered.number,
@@ -69,9 +71,12 @@ impl Batch {
     }
 
     /// Takes a line. Where it is `new`, the batch of the writer before it is handed out, and this is the new writer's.
+    /// Only a call can want memory, and is not taken then.
     pub fn take(&mut self, heap: Global, numbered: Numbered) -> Result<Option<Batch>, AllocError>
         ensures goes { IfOk result (λ done. Goes done self.old numbered.number numbered.line self.new) }
-        ensures err { OnErr result (self.new.calls.items ≡ self.old.calls.items) }
+        ensures section { IfOk result (λ done. Extends done self.old numbered self.new) }
+        ensures err { OnErr result (Stays self.old self.new) }
+        ensures calls { OnErr result (role numbered.line ≡ Calls) }
     {
         match numbered.line.role() {
             Role::Starts => {

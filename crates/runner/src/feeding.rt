@@ -1,9 +1,13 @@
 // Takes a script line by line, runs each writer where the next begins or the script ends, and prints what became of it.
+ghost use Rattle.std.specs.Prelude.{◌≡◌, OnOk};
+ghost use Rattle.std.specs.Io.KnownBytes.{Keeps};
+ghost use Rattle.runner.specs.Feeding.{holds, Gains, written_of, Ends, BreaksOff, Takes, Feeds};
+
 use crate::printing::{print_refusals, print_trace, print_xml};
-use crate::running::run;
+use crate::running::{Outcome, run};
 use crate::stop::Stop;
 use feed::Batch;
-use script::{Fault, Numbered, Script};
+use script::{Fault, Numbered, Script, ScriptError};
 use std::alloc::Global;
 use std::io::{self, Write};
 
@@ -26,7 +30,11 @@ pub struct Feeding<O, E> {
 }
 
 impl<O: Write + Drop, E: Write + Drop> Feeding<O, E> {
-    pub fn new(heap: Global, output: Output, out: O, err: E) -> Feeding<O, E> {
+    pub fn new(heap: Global, output: Output, out: O, err: E) -> Feeding<O, E>
+        ensures output { result.output ≡ output }
+        ensures out { result.out ≡ out }
+        ensures err { result.err ≡ err }
+    {
         Feeding {
             heap,
             output,
@@ -35,59 +43,82 @@ impl<O: Write + Drop, E: Write + Drop> Feeding<O, E> {
         }
     }
 
-    pub fn flush(&mut self) -> io::Result<()> {
+    pub fn flush(&mut self) -> io::Result<()>
+        ensures output { self.new.output ≡ self.old.output }
+        ensures out { Keeps (O.contents self.old.out) (O.contents self.new.out) }
+        ensures err { Keeps (E.contents self.old.err) (E.contents self.new.err) }
+    {
         self.out.flush()?;
         self.err.flush()
     }
 
-    // A writer is done.
-    fn end(&mut self, batch: &Batch) -> Result<(), Stop> {
-        if !batch.reported {
-            return Ok(());
-        }
-        let outcome = run(self.heap, batch)?;
+    // What became of a writer.
+    fn print(&mut self, batch: &Batch, outcome: &Outcome) -> io::Result<()>
+        ensures output { self.new.output ≡ self.old.output }
+        ensures gains { OnOk result (Gains (holds O.contents E.contents self.old) (holds O.contents E.contents self.new) (written_of self.old.output batch.now outcome.now)) }
+    {
         match self.output {
             Output::Plain => {
-                print_refusals(&mut self.err, batch, &outcome)?;
-                print_xml(&mut self.out, &outcome)?;
+                print_refusals(&mut self.err, batch, outcome)?;
+                print_xml(&mut self.out, outcome)
             }
-            Output::Trace => print_trace(self.heap, &mut self.out, &outcome)?,
+            Output::Trace => print_trace(self.heap, &mut self.out, outcome),
         }
-        Ok(())
     }
 
-    // An error of the script stops a writer: nothing of it goes to the output, but its calls so far are made, and those
-    // refused are told.
-    fn break_off(&mut self, batch: &Batch) -> Result<(), Stop> {
-        if self.output == Output::Plain {
+    // A writer is done.
+    fn end(&mut self, batch: &Batch) -> Result<(), Stop>
+        ensures output { self.new.output ≡ self.old.output }
+        ensures ends { Ends self.old.output batch.now result (holds O.contents E.contents self.old) (holds O.contents E.contents self.new) }
+    {
+        if batch.reported {
             let outcome = run(self.heap, batch)?;
-            print_refusals(&mut self.err, batch, &outcome)?;
+            self.print(batch, &outcome)?;
         }
         Ok(())
     }
 
-    // One line.
-    fn take(&mut self, batch: &mut Batch, numbered: Numbered) -> Result<(), Stop> {
+    // An error of the script stops a writer, and is the answer: nothing of the writer goes to the output, but its calls so
+    // far are made, and those refused are told.
+    fn break_off(&mut self, batch: &Batch, error: ScriptError) -> Result<(), Stop>
+        ensures output { self.new.output ≡ self.old.output }
+        ensures breaks { BreaksOff self.old.output batch.now error result (holds O.contents E.contents self.old) (holds O.contents E.contents self.new) }
+    {
+        match self.output {
+            Output::Plain => {
+                let outcome = run(self.heap, batch)?;
+                print_refusals(&mut self.err, batch, &outcome)?;
+            }
+            Output::Trace => {}
+        }
+        Err(Stop::Script(error))
+    }
+
+    // One line. A call that there is no memory for is an error of the script.
+    fn take(&mut self, batch: &mut Batch, numbered: Numbered) -> Result<(), Stop>
+        ensures output { self.new.output ≡ self.old.output }
+        ensures takes { Takes self.old.output batch.old numbered batch.new result (holds O.contents E.contents self.old) (holds O.contents E.contents self.new) }
+    {
         let line = numbered.number;
-        let wants = |_| Fault::Memory.at_line(line);
-        if let Some(done) = batch.take(self.heap, numbered).map_err(wants)? {
-            self.end(&done)?;
+        match batch.take(self.heap, numbered) {
+            Ok(Some(done)) => self.end(&done),
+            Ok(None) => Ok(()),
+            Err(_) => self.break_off(batch, Fault::Memory.at_line(line)),
         }
-        Ok(())
     }
 
-    /// Runs a script.
-    pub fn feed(&mut self, text: &[u8]) -> Result<(), Stop> {
+    /// Runs a script: what its writers give is written, one after another, up to its end or to the error that it stops at.
+    pub fn feed(&mut self, text: &[u8]) -> Result<(), Stop>
+        ensures output { self.new.output ≡ self.old.output }
+        ensures feeds { Feeds self.old.output text.now result (holds O.contents E.contents self.old) (holds O.contents E.contents self.new) }
+    {
         let mut script = Script::new(text);
         let mut batch = Batch::at_start(self.heap);
         loop {
             match script.next_line(self.heap) {
                 Ok(Some(numbered)) => self.take(&mut batch, numbered)?,
                 Ok(None) => return self.end(&batch),
-                Err(error) => {
-                    self.break_off(&batch)?;
-                    return Err(Stop::Script(error));
-                }
+                Err(error) => return self.break_off(&batch, error),
             }
         }
     }

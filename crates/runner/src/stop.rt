@@ -1,4 +1,7 @@
 // What ends a run before the script's end.
+ghost use Rattle.std.specs.Prelude.{◌≡◌};
+ghost use Rattle.runner.specs.declared.stop.Stop.TheVariants as stops;
+
 use script::ScriptError;
 use std::io;
 
@@ -11,12 +14,16 @@ pub enum Stop {
 }
 
 impl From<ScriptError> for Stop {
+    ghost from_gives = { λ e s. s ≡ stops.Script e };
+
     fn from(error: ScriptError) -> Stop {
         Stop::Script(error)
     }
 }
 
 impl From<io::Error> for Stop {
+    ghost from_gives = { λ e s. s ≡ stops.Io e };
+
     fn from(error: io::Error) -> Stop {
         Stop::Io(error)
     }
