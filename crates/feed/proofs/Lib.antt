@@ -1,2 +1,4 @@
 mod Making
+mod Latest
+mod Falling
 pub mod Sections

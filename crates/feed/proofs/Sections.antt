@@ -1,19 +1,19 @@
 -- One line more: the sections of a script, and the batch of the last of them.
-use Rattle.std.proofs.Common.{◌≡◌, ℕ, Bool, true, false, ◌||◌, List, [], ◌∷◌, ◌++◌, map, flat_map, Some, None, Option, vec_items, refl, sym, ap, ◌∙◌, append_assoc}
+use Rattle.std.proofs.Common.{◌≡◌, ◌≢◌, ℕ, Bool, true, false, ◌||◌, List, [], ◌∷◌, ◌++◌, map, flat_map, Some, None, Option, vec_items, refl, sym, ap, ◌∙◌, append_assoc}
 use Rattle.std.proofs.lemmas.List.{append-nil, map-append}
 use Rattle.xml.specs.declared.escape.QuoteLevel.{QuoteLevel}
 use Rattle.script.specs.declared.line.Line.{Line}
-use Rattle.script.specs.declared.line.Line.TheVariants.{Blank, New, Style, Memory, Sink, Level, Open, Field, Text, Nothing, Variant, Wrapped, Row, VariantRow, Record, VariantRecord, End, Finish, Abandon}
+use Rattle.script.specs.declared.line.Line.TheVariants.{Blank, New, Style, Memory, Sink, Level}
 use Rattle.script.specs.declared.line.Numbered.{Numbered}
 use Rattle.script.specs.declared.order.Role.{Role}
 use Rattle.script.specs.declared.order.Role.TheVariants.{Starts, Sets, Anywhere, Calls}
 use Rattle.script.specs.Order.{role}
 use Rattle.feed.specs.declared.setup.Setup.{Setup}
 use Rattle.feed.specs.declared.batch.Batch.{Batch}
-use Rattle.feed.specs.Setups.{defaults, setup_after}
+use Rattle.feed.specs.Setups.{defaults, setup_after, setup_after_all, Each, GoesOn}
 use Rattle.feed.specs.Batches as batches
 use Rattle.feed.specs.Batches.{says_something, Begins, AddsCall, Goes, GoesAs}
-use Rattle.feed.specs.Sections.{Section, Each, opening_lines, lines_of, GoesOn, IsLater, InOrder, FallInto, first_of, setup_after_all, called, calls_among, any_says, is_reported, shown, IsBatchOf, opened, longer, Extends}
+use Rattle.feed.specs.Sections.{Section, opening_lines, lines_of, IsLater, InOrder, FallInto, first_of, called, calls_among, any_says, is_reported, shown, IsBatchOf, opened, longer, Extends, CallsInOrder}
 
 -- what holds of several, and of one more
 all_more : {A : Type 0} (P : A → Type 0) (xs : List A) (x : A) → Each P xs → P x → Each P (xs ++ x ∷ [])
@@ -58,12 +58,12 @@ called_before Sets x xs ys = refl
 called_before Anywhere x xs ys = refl
 called_before Calls x xs ys = refl
 
-calls_more : (s : Setup) (ns : List Numbered) (n : Numbered) → calls_among s (ns ++ n ∷ []) ≡ calls_among s ns ++ called (role n.line) (n.number, n.line, (setup_after_all s ns).level) []
-calls_more s [] n = refl
-calls_more s (m ∷ ms) n =
+calls_at : (s : Setup) (front rest : List Numbered) (n : Numbered) → calls_among s (front ++ n ∷ rest) ≡ calls_among s front ++ called (role n.line) (n.number, n.line, (setup_after_all s front).level) (calls_among (setup_after_all s (front ++ n ∷ [])) rest)
+calls_at s [] rest n = refl
+calls_at s (m ∷ ms) rest n =
     let t = setup_after s m.number m.line in
-    let last = called (role n.line) (n.number, n.line, (setup_after_all t ms).level) [] in
-    ap (called (role m.line) (m.number, m.line, s.level)) (calls_more t ms n) ∙ called_before (role m.line) (m.number, m.line, s.level) (calls_among t ms) last
+    let last = called (role n.line) (n.number, n.line, (setup_after_all t ms).level) (calls_among (setup_after_all t (ms ++ n ∷ [])) rest) in
+    ap (called (role m.line) (m.number, m.line, s.level)) (calls_at t ms rest n) ∙ called_before (role m.line) (m.number, m.line, s.level) (calls_among t ms) last
 
 or_false : (a : Bool) → a || false ≡ a
 or_false true = refl
@@ -83,67 +83,35 @@ reported_longer s n = ap any_says (sym (append_assoc (opening_lines s.opening) s
 -- a `new` says something
 new_says : (l : Line) → role l ≡ Starts → says_something l ≡ true
 new_says Blank e = cc
-new_says New e = refl
-new_says (Style layout) e = refl
-new_says (Memory sizes) e = refl
-new_says (Sink choice) e = refl
-new_says (Level level) e = refl
-new_says (Open name) e = refl
-new_says (Field key) e = refl
-new_says (Text string) e = refl
-new_says Nothing e = refl
-new_says (Variant name) e = refl
-new_says (Wrapped name) e = refl
-new_says Row e = refl
-new_says (VariantRow name) e = refl
-new_says (Record name) e = refl
-new_says (VariantRecord name) e = refl
-new_says End e = refl
-new_says Finish e = refl
-new_says Abandon e = refl
+new_says _ e = refl
 
 -- a call says something, and leaves the settings
 call_says : (l : Line) → role l ≡ Calls → says_something l ≡ true
 call_says Blank e = cc
-call_says New e = refl
-call_says (Style layout) e = refl
-call_says (Memory sizes) e = refl
-call_says (Sink choice) e = refl
-call_says (Level level) e = refl
-call_says (Open name) e = refl
-call_says (Field key) e = refl
-call_says (Text string) e = refl
-call_says Nothing e = refl
-call_says (Variant name) e = refl
-call_says (Wrapped name) e = refl
-call_says Row e = refl
-call_says (VariantRow name) e = refl
-call_says (Record name) e = refl
-call_says (VariantRecord name) e = refl
-call_says End e = refl
-call_says Finish e = refl
-call_says Abandon e = refl
+call_says _ e = refl
 
 call_keeps : (s : Setup) (n : ℕ) (l : Line) → role l ≡ Calls → setup_after s n l ≡ s
-call_keeps s n Blank e = refl
 call_keeps s n New e = cc
 call_keeps s n (Style layout) e = cc
 call_keeps s n (Memory sizes) e = cc
 call_keeps s n (Sink choice) e = cc
 call_keeps s n (Level level) e = cc
-call_keeps s n (Open name) e = refl
-call_keeps s n (Field key) e = refl
-call_keeps s n (Text string) e = refl
-call_keeps s n Nothing e = refl
-call_keeps s n (Variant name) e = refl
-call_keeps s n (Wrapped name) e = refl
-call_keeps s n Row e = refl
-call_keeps s n (VariantRow name) e = refl
-call_keeps s n (Record name) e = refl
-call_keeps s n (VariantRecord name) e = refl
-call_keeps s n End e = refl
-call_keeps s n Finish e = refl
-call_keeps s n Abandon e = refl
+call_keeps s n _ e = refl
+
+others_add_none : {A : Type 0} (r : Role) (x : A) (xs : List A) → r ≢ Calls → called r x xs ≡ xs
+others_add_none Starts x xs h = refl
+others_add_none Sets x xs h = refl
+others_add_none Anywhere x xs h = refl
+others_add_none Calls x xs h = absurd (h refl)
+
+pub calls_in_order : CallsInOrder
+calls_in_order s front rest n =
+    let x : ℕ × Line × QuoteLevel = (n.number, n.line, (setup_after_all s front).level) in
+    let after = setup_after_all s (front ++ n ∷ []) in
+    let at = calls_at s front rest n in (
+      λ call. at ∙ ap (λ z. calls_among s front ++ z) (ap (λ r. called r x (calls_among after rest)) call ∙ ap (λ t. x ∷ calls_among t rest) (setup_more s front n ∙ call_keeps (setup_after_all s front) n.number n.line call)),
+      λ other. at ∙ ap (λ z. calls_among s front ++ z) (others_add_none (role n.line) x (calls_among after rest) other),
+    )
 
 or_true : (a b : Bool) → b ≡ true → true ≡ a || b
 or_true true b e = refl
@@ -163,7 +131,7 @@ batch_calls s b n b' is call h =
     ∙ sym (ap (λ r. called r (n.number, n.line, settings.level) []) call) in
     record {
       setup = h.setup ∙ is.setup ∙ sym (setup_more first s.said n ∙ call_keeps settings n.number n.line call);
-      calls = ap (map shown) h.calls ∙ map-append shown (vec_items b.calls) (h.added ∷ []) ∙ ap (λ x. x ++ shown h.added ∷ []) is.calls ∙ ap (λ x. calls_among first s.said ++ x) last ∙ sym (calls_more first s.said n);
+      calls = ap (map shown) h.calls ∙ map-append shown (vec_items b.calls) (h.added ∷ []) ∙ ap (λ x. x ++ shown h.added ∷ []) is.calls ∙ ap (λ x. calls_among first s.said ++ x) last ∙ sym (calls_at first s.said [] n);
       reports = h.reports ∙ or_true (is_reported s) (says_something n.line) (call_says n.line call) ∙ sym (reported_longer s n);
     }
 
@@ -173,7 +141,7 @@ batch_sets s b n b' is none h =
     let settings = setup_after_all first s.said in
     record {
       setup = h.setup ∙ ap (λ x. setup_after x n.number n.line) is.setup ∙ sym (setup_more first s.said n);
-      calls = ap (map shown) h.calls ∙ is.calls ∙ sym (append-nil (calls_among first s.said)) ∙ ap (λ x. calls_among first s.said ++ x) (sym (none (n.number, n.line, settings.level))) ∙ sym (calls_more first s.said n);
+      calls = ap (map shown) h.calls ∙ is.calls ∙ sym (append-nil (calls_among first s.said)) ∙ ap (λ x. calls_among first s.said ++ x) (sym (none (n.number, n.line, settings.level))) ∙ sym (calls_at first s.said [] n);
       reports = h.reports ∙ ap (λ x. x || says_something n.line) is.reports ∙ sym (reported_longer s n);
     }
 

@@ -1,8 +1,10 @@
 -- Which call a line makes, word by word. Assumes nothing.
-use Rattle.std.specs.Prelude.{◌≡◌, ◌∷◌, List, [], Some, None, Option, vec_items}
+use Rattle.std.specs.Prelude.{◌≡◌, ◌≢◌, ◌↔◌, ◌∷◌, List, [], map, Some, None, Option, vec_items}
 use Rattle.xml.specs.declared.escape.QuoteLevel.{QuoteLevel}
 use Rattle.xml.specs.Escaping.{level_chooses}
 use Rattle.script.specs.declared.line.Line.{Line}
+use Rattle.script.specs.declared.order.Role.TheVariants.{Calls}
+use Rattle.script.specs.Order.{role}
 use Rattle.script.specs.declared.line.Line.TheVariants.{Blank, New, Style, Memory, Sink, Level, Open, Field, Text, Nothing, Variant, Wrapped, Row, VariantRow, Record, VariantRecord, End, Finish, Abandon}
 use Rattle.model.specs.Calls as model
 use Rattle.model.specs.Rules.{level_rule}
@@ -46,3 +48,11 @@ with_call (Some c) cs = c ∷ cs
 abbrev pub calls_made : List CallLine → List model.Call
 calls_made [] = []
 calls_made (l ∷ ls) = with_call (call_of l.level l.line) (calls_made ls)
+
+-- a line makes a call exactly where it is one
+abbrev pub CallsOnly : Type 0
+CallsOnly = (level : QuoteLevel) (line : Line) → (call_of level line ≢ None) ↔ (role line ≡ Calls)
+
+-- each of a writer's lines makes one call, its own, and they are made in the order of the lines
+abbrev pub OneCallEach : Type 0
+OneCallEach = (ls : List CallLine) → map Some (calls_made ls) ≡ map (λ l. call_of l.level l.line) ls

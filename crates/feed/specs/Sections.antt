@@ -9,7 +9,7 @@ use Rattle.script.specs.Order.{role}
 use Rattle.feed.specs.declared.call_line.CallLine.{CallLine}
 use Rattle.feed.specs.declared.setup.Setup.{Setup}
 use Rattle.feed.specs.declared.batch.Batch.{Batch}
-use Rattle.feed.specs.Setups.{defaults, setup_after}
+use Rattle.feed.specs.Setups.{defaults, setup_after, setup_after_all, Each, GoesOn}
 use Rattle.feed.specs.Batches.{says_something}
 
 -- the lines of one writer: the `new` that begins it, if it is not the writer at the start, and those behind
@@ -23,14 +23,6 @@ opening_lines (Some n) = n ∷ []
 
 abbrev pub lines_of : Section → List Numbered
 lines_of s = opening_lines s.opening ++ s.said
-
-abbrev pub Each : {A : Type 0} → (A → Type 0) → List A → Type 0
-Each P [] = Unit {0}
-Each P (x ∷ xs) = P x × Each P xs
-
--- the line is no `new`
-abbrev pub GoesOn : Numbered → Type 0
-GoesOn n = role n.line ≢ Starts
 
 -- a section behind another begins with a `new`, and has no other
 abbrev pub OpensWith : Option Numbered → Type 0
@@ -49,15 +41,14 @@ InOrder (s ∷ ss) = (s.opening ≡ None) × Each GoesOn s.said × Each IsLater 
 abbrev pub FallInto : List Numbered → List Section → Type 0
 FallInto ns ss = InOrder ss × (flat_map lines_of ss ≡ ns)
 
+-- lines fall into sections in one way only
+abbrev pub InOneWay : Type 0
+InOneWay = (ns : List Numbered) (ss ts : List Section) → FallInto ns ss → FallInto ns ts → ss ≡ ts
+
 -- the line where the writer begins
 abbrev pub first_of : Option Numbered → ℕ
 first_of None = 1
 first_of (Some n) = n.number
-
--- the settings after several lines
-abbrev pub setup_after_all : Setup → List Numbered → Setup
-setup_after_all s [] = s
-setup_after_all s (n ∷ ns) = setup_after_all (setup_after s n.number n.line) ns
 
 abbrev pub called : {A : Type 0} → Role → A → List A → List A
 called Starts x xs = xs
@@ -69,6 +60,13 @@ called Calls x xs = x ∷ xs
 abbrev pub calls_among : Setup → List Numbered → List (ℕ × Line × QuoteLevel)
 calls_among s [] = []
 calls_among s (n ∷ ns) = called (role n.line) (n.number, n.line, s.level) (calls_among (setup_after s n.number n.line) ns)
+
+-- a call stands between those of the lines before and behind it, with its number and the rule that holds after the lines before it; any other line adds none
+abbrev pub CallsInOrder : Type 0
+CallsInOrder =
+    (s : Setup) (front rest : List Numbered) (n : Numbered) →
+    (role n.line ≡ Calls → calls_among s (front ++ n ∷ rest) ≡ calls_among s front ++ (n.number, n.line, (setup_after_all s front).level) ∷ calls_among (setup_after_all s front) rest)
+    × (role n.line ≢ Calls → calls_among s (front ++ n ∷ rest) ≡ calls_among s front ++ calls_among (setup_after_all s (front ++ n ∷ [])) rest)
 
 abbrev pub any_says : List Numbered → Bool
 any_says [] = false

@@ -1,9 +1,10 @@
 // What a script says of one writer.
-ghost use Rattle.std.specs.Prelude.{◌≡◌, true, false, OnOk, OnErr, IfOk};
+ghost use Rattle.std.specs.Prelude.{◌≡◌, ◌↔◌, true, false, OnOk, OnErr, IfOk};
+ghost use Rattle.script.specs.declared.line.Line.TheVariants.{Blank};
 ghost use Rattle.script.specs.Order.{role};
 ghost use Rattle.script.specs.declared.order.Role.TheVariants.{Calls};
 ghost use Rattle.feed.specs.Batches.{says_something, Begins, AddsCall, Sets, Stays, Goes};
-ghost use Rattle.feed.specs.Sections.{IsBatchOf, at_start, Extends};
+ghost use Rattle.feed.specs.Sections.{IsBatchOf, InOneWay, CallsInOrder, at_start, Extends};
 
 use crate::call_line::CallLine;
 use crate::setup::Setup;
@@ -23,6 +24,7 @@ pub struct Batch {
 // Whether a line says anything.
 fn says_something(line: &Line) -> bool
     ensures value { result ≡ says_something line.now }
+    ensures blank { (result ≡ false) ↔ (line.now ≡ Blank) }
 {
     !matches!(line, Line::Blank)
 }
@@ -94,3 +96,11 @@ impl Batch {
         }
     }
 }
+
+/// The lines of a script fall into the sections of its writers in one way. The calls of a writer stand in the order of their
+/// lines, each with the rule that holds there, and no other line adds one.
+// No code in it, since a contract is what names a theorem.
+pub fn law_sections()
+    ensures one_way { InOneWay }
+    ensures calls { CallsInOrder }
+{}

@@ -2,7 +2,7 @@
 ghost use Rattle.std.specs.Prelude.{IfOk};
 ghost use Rattle.xml.specs.Escaping.{level_chooses};
 ghost use Rattle.writer.specs.Spelled.{CallsAre};
-ghost use Rattle.feed.specs.Making.{calls_made};
+ghost use Rattle.feed.specs.Making.{calls_made, CallsOnly, OneCallEach};
 
 use crate::call_line::CallLine;
 use std::alloc::{AllocError, Global};
@@ -20,3 +20,10 @@ pub fn calls_of(heap: Global, lines: &[CallLine]) -> Result<Vec<Call<'_, QuoteLe
     }
     Ok(calls)
 }
+
+/// A line makes a call exactly where it is one, and each line of a writer makes one, in the order of the lines.
+// No code in it, since a contract is what names a theorem.
+pub fn law_one_call_each()
+    ensures only { CallsOnly }
+    ensures each { OneCallEach }
+{}

@@ -7,8 +7,8 @@ mod calling;
 mod setup;
 mod telling;
 
-pub use batch::Batch;
+pub use batch::{Batch, law_sections};
 pub use call_line::CallLine;
-pub use calling::calls_of;
-pub use setup::{Setting, Setup};
+pub use calling::{calls_of, law_one_call_each};
+pub use setup::{Setting, Setup, law_last_counts};
 pub use telling::{Counted, Told, Traced, bytes_line};

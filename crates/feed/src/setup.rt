@@ -1,6 +1,6 @@
 // The settings of a writer, each with the line that a want of it is told at.
 ghost use Rattle.std.specs.Prelude.{◌≡◌};
-ghost use Rattle.feed.specs.Setups.{defaults, setup_after};
+ghost use Rattle.feed.specs.Setups.{defaults, setup_after, LastCounts};
 
 use script::{Layout, Line, Numbered, SinkChoice, Sizes};
 use style::EmptyElementHandling;
@@ -74,3 +74,9 @@ impl Setup {
         }
     }
 }
+
+/// Of several lines that set the same the last one counts, and a line leaves what it does not set.
+// No code in it, since a contract is what names a theorem.
+pub fn law_last_counts()
+    ensures law { LastCounts }
+{}

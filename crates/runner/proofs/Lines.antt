@@ -5,7 +5,7 @@ use Rattle.std.specs.Io.KnownBytes.{Appends}
 use Rattle.refusal.specs.declared.Refusal.{Refusal}
 use Rattle.feed.specs.declared.call_line.CallLine.{CallLine}
 use Rattle.feed.specs.Telling.{traced, told}
-use Rattle.runner.specs.Printing.{ended, answers_told, refused_told}
+use Rattle.runner.specs.Printing.{ended, answers_told, refused_told, told_of, ToldInOrder, AnsweredInOrder}
 
 pub appends_none : (a : Option (List ℕ)) → Appends a a []
 appends_none None = tt
@@ -41,3 +41,19 @@ refused_done [] ys e = refl
 refused_done (x ∷ xs) [] e = refl
 refused_done (x ∷ xs) (y ∷ ys) (inl e) = absurd (omega (arith, e))
 refused_done (x ∷ xs) (y ∷ ys) (inr e) = absurd (omega (arith, e))
+
+pub told_in_order : ToldInOrder
+told_in_order [] ds c [] ss (Ok x) h = refl
+told_in_order [] ds c [] ss (Err e) h = refl
+told_in_order [] ds c (q ∷ rs) ss r h = absurd (omega (arith, h))
+told_in_order (b ∷ cs) ds c [] ss r h = absurd (omega (arith, h))
+told_in_order (b ∷ cs) ds c (Ok x ∷ rs) ss r h = told_in_order cs ds c rs ss r (omega (arith, h))
+told_in_order (b ∷ cs) ds c (Err e ∷ rs) ss r h =
+    let line = ended (told b.number e) in
+    ap (λ z. line ++ z) (told_in_order cs ds c rs ss r (omega (arith, h))) ∙ sym (append_assoc line (refused_told cs rs) (told_of c r ++ refused_told ds ss))
+
+pub answered_in_order : AnsweredInOrder
+answered_in_order [] ss r = refl
+answered_in_order (q ∷ rs) ss r =
+    let line = ended (traced q) in
+    ap (λ z. line ++ z) (answered_in_order rs ss r) ∙ sym (append_assoc line (answers_told rs) (ended (traced r) ++ answers_told ss))

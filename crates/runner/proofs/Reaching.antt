@@ -13,7 +13,8 @@ use Rattle.script.specs.Cuts.{first_line, blank}
 use Rattle.script.specs.Script.{Reader, Next}
 use Rattle.feed.specs.declared.batch.Batch.{Batch}
 use Rattle.feed.specs.Batches.{Stays}
-use Rattle.feed.specs.Sections.{Section, GoesOn, shown, IsBatchOf, at_start, opened, longer}
+use Rattle.feed.specs.Setups.{GoesOn}
+use Rattle.feed.specs.Sections.{Section, shown, IsBatchOf, at_start, opened, longer}
 use Rattle.feed.proofs.Sections.{falls_longer, falls_opened}
 use Rattle.refusal.specs.declared.Refusal.{Refusal}
 use Rattle.runner.specs.declared.running.Ran.{Ran}

@@ -1,5 +1,5 @@
 -- What is printed of a writer, byte for byte. Assumes nothing.
-use Rattle.std.specs.Prelude.{ℕ, List, [], ◌∷◌, ◌++◌, length, Ok, Err, Result, vec_items}
+use Rattle.std.specs.Prelude.{◌≡◌, ℕ, List, [], ◌∷◌, ◌++◌, length, Ok, Err, Result, vec_items}
 use Rattle.refusal.specs.declared.Refusal.{Refusal}
 use Rattle.feed.specs.declared.call_line.CallLine.{CallLine}
 use Rattle.feed.specs.declared.batch.Batch.{Batch}
@@ -16,6 +16,17 @@ refused_told (c ∷ cs) (Ok x ∷ rs) = refused_told cs rs
 refused_told (c ∷ cs) (Err e ∷ rs) = ended (told c.number e) ++ refused_told cs rs
 refused_told cs rs = []
 
+-- what is told of one call: its refusal, with the number of its own line, and of an accepted call nothing
+abbrev pub told_of : CallLine → Result (Unit {0}) Refusal → List ℕ
+told_of c (Ok x) = []
+told_of c (Err e) = ended (told c.number e)
+
+-- what is told of a call stands between what is told of those before and of those behind it
+abbrev pub ToldInOrder : Type 0
+ToldInOrder =
+    (cs ds : List CallLine) (c : CallLine) (rs ss : List (Result (Unit {0}) Refusal)) (r : Result (Unit {0}) Refusal) →
+    length cs ≡ length rs → refused_told (cs ++ c ∷ ds) (rs ++ r ∷ ss) ≡ refused_told cs rs ++ (told_of c r ++ refused_told ds ss)
+
 -- the refusals of a writer: of its style, with the line of the style, or of its calls
 abbrev pub refusals_told : Batch → Result Ran Refusal → List ℕ
 refusals_told b (Err e) = ended (told b.setup.style.line e)
@@ -30,6 +41,10 @@ xml_of (Ok r) = vec_items r.bytes
 abbrev pub answers_told : List (Result (Unit {0}) Refusal) → List ℕ
 answers_told [] = []
 answers_told (r ∷ rs) = ended (traced r) ++ answers_told rs
+
+-- the line of an answer stands between those of the answers before and behind it
+abbrev pub AnsweredInOrder : Type 0
+AnsweredInOrder = (rs ss : List (Result (Unit {0}) Refusal)) (r : Result (Unit {0}) Refusal) → answers_told (rs ++ r ∷ ss) ≡ answers_told rs ++ (ended (traced r) ++ answers_told ss)
 
 -- the trace of a writer: its answers, how much its sink holds and takes, and what it holds; of a refused style that alone
 abbrev pub trace_of : Result Ran Refusal → List ℕ

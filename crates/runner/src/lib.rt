@@ -7,6 +7,6 @@ mod running;
 mod stop;
 
 pub use feeding::{Feeding, Output};
-pub use printing::print_xml;
+pub use printing::{law_told_in_order, print_xml};
 pub use running::{Outcome, Ran, run};
 pub use stop::Stop;

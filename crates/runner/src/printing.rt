@@ -2,7 +2,7 @@
 ghost use Rattle.std.specs.Prelude.{Ok, OnOk};
 ghost use Rattle.std.specs.Io.KnownBytes.{Appends};
 ghost use Rattle.feed.specs.Telling.{told};
-ghost use Rattle.runner.specs.Printing.{ended, refused_told, refusals_told, xml_of, answers_told, trace_of};
+ghost use Rattle.runner.specs.Printing.{ended, refused_told, refusals_told, xml_of, answers_told, trace_of, ToldInOrder, AnsweredInOrder};
 
 use crate::running::{Outcome, Ran};
 use feed::{Batch, CallLine, Counted, Told, Traced, bytes_line};
@@ -86,3 +86,10 @@ pub fn print_trace<O: Write>(heap: Global, out: &mut O, outcome: &Outcome) -> io
         Ok(ran) => print_ran(heap, out, ran),
     }
 }
+
+/// Each refused call is told in its place, with the number of its own line, and each answer has its line in a trace.
+// No code in it, since a contract is what names a theorem.
+pub fn law_told_in_order()
+    ensures refusals { ToldInOrder }
+    ensures answers { AnsweredInOrder }
+{}
