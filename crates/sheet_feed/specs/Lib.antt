@@ -1,1 +1,3 @@
 pub mod Asking
+pub mod FirstTask
+pub mod Exits

@@ -1,6 +1,11 @@
 // The record that is shown without a script: one map sheet, call by call.
+ghost use Rattle.std.specs.Prelude.{◌∷◌, Ok, OnOk, IfOk, map};
+ghost use Rattle.std.specs.Io.KnownBytes.{Appends};
+ghost use Rattle.runner.specs.Printing.{ended};
+ghost use Rattle.sheet_feed.specs.FirstTask.{TakesOne, IsBatchOfLines, step_told, steps_told, title, holding, page, Shows};
+
 use feed::Batch;
-use runner::{Stop, print_xml, run};
+use runner::{Outcome, Ran, Stop, run};
 use script::{Fault, Numbered, read_line};
 use std::alloc::Global;
 use std::io::{self, Write};
@@ -48,38 +53,101 @@ const CALLS: [&str; 35] = [
     "finish",
 ];
 
-// The lines as a script has them.
-fn read_steps(heap: Global) -> Result<Batch, Fault> {
+// A line as a script has it.
+fn take_text(heap: Global, batch: &mut Batch, number: usize, text: &str) -> Result<(), Fault>
+    ensures takes { OnOk result (TakesOne number text.now batch.old batch.new) }
+{
+    let line = read_line(heap, text.as_bytes())?;
+    batch.take(heap, Numbered { number, line })?;
+    Ok(())
+}
+
+fn read_steps(heap: Global, style: &str, calls: &[&str]) -> Result<Batch, Fault>
+    ensures reads { IfOk result (IsBatchOfLines (style.now ∷ map (λ call. call.now) calls.now)) }
+{
     let mut batch = Batch::at_start(heap);
-    for (number, text) in [STYLE].iter().chain(CALLS.iter()).enumerate() {
-        let line = read_line(heap, text.as_bytes())?;
-        batch.take(heap, Numbered { number, line })?;
+    take_text(heap, &mut batch, 0, style)?;
+    for (before, text) in calls.iter().enumerate() {
+        take_text(heap, &mut batch, before + 1, text)?;
     }
     Ok(batch)
 }
 
-fn print_steps<O: Write>(out: &mut O, answers: &[Answer]) -> io::Result<()> {
-    for (text, answer) in CALLS.iter().zip(answers) {
-        match answer {
-            Ok(()) => writeln!(out, "  {text}: accepted")?,
-            Err(refusal) => writeln!(out, "  {text}: {refusal}")?,
-        }
+fn print_step<O: Write>(out: &mut O, text: &str, answer: Answer) -> io::Result<()>
+    ensures told { OnOk result (Appends (O.contents out.old) (O.contents out.new) (ended (step_told text.now answer))) }
+{
+    match answer {
+        Ok(()) => writeln!(out, "  {text}: accepted"),
+        Err(refusal) => writeln!(out, "  {text}: {refusal}"),
+    }
+}
+
+fn print_steps<O: Write>(out: &mut O, calls: &[&str], answers: &[Answer]) -> io::Result<()>
+    ensures told { OnOk result (Appends (O.contents out.old) (O.contents out.new) (steps_told (map (λ call. call.now) calls.now) answers.now)) }
+{
+    for (text, answer) in calls.iter().zip(answers) {
+        print_step(out, text, *answer)?;
     }
     Ok(())
 }
 
-/// Makes the calls, and prints each with its answer, what the sink answers, and the XML that it holds.
-pub fn show<O: Write>(heap: Global, out: &mut O) -> Result<(), Stop> {
-    let batch = read_steps(heap).map_err(|fault| fault.at_line(1))?;
-    let outcome = run(heap, &batch)?;
-    if let Ok(ran) = &outcome {
-        let bytes = ran.bytes.len();
-        let room = ran.room;
-        writeln!(out, "A record of a map sheet, in the style `{STYLE}`:")?;
-        print_steps(out, &ran.answers)?;
-        writeln!(out, "The sink holds {bytes} bytes and has room for {room}:")?;
-        print_xml(out, &outcome)?;
-        writeln!(out)?;
+fn print_title<O: Write>(out: &mut O, style: &str) -> io::Result<()>
+    ensures told { OnOk result (Appends (O.contents out.old) (O.contents out.new) (title style.now)) }
+{
+    writeln!(out, "A record of a map sheet, in the style `{style}`:")
+}
+
+fn print_holding<O: Write>(out: &mut O, ran: &Ran) -> io::Result<()>
+    ensures told { OnOk result (Appends (O.contents out.old) (O.contents out.new) (holding ran.now)) }
+{
+    let bytes = ran.bytes.len();
+    let room = ran.room;
+    writeln!(out, "The sink holds {bytes} bytes and has room for {room}:")
+}
+
+fn print_bytes<O: Write>(out: &mut O, bytes: &[u8]) -> io::Result<()>
+    ensures told { OnOk result (Appends (O.contents out.old) (O.contents out.new) (ended bytes.now)) }
+{
+    out.write_all(bytes)?;
+    writeln!(out)
+}
+
+// Each call with its answer, what the sink answers, and the XML that it holds.
+fn print_ran<O: Write>(out: &mut O, style: &str, calls: &[&str], ran: &Ran) -> io::Result<()>
+    ensures told { OnOk result (Appends (O.contents out.old) (O.contents out.new) (page style.now (map (λ call. call.now) calls.now) (Ok ran.now))) }
+{
+    print_title(out, style)?;
+    print_steps(out, calls, &ran.answers)?;
+    print_holding(out, ran)?;
+    print_bytes(out, &ran.bytes)
+}
+
+fn print_page<O: Write>(
+    out: &mut O,
+    style: &str,
+    calls: &[&str],
+    outcome: &Outcome,
+) -> io::Result<()>
+    ensures told { OnOk result (Appends (O.contents out.old) (O.contents out.new) (page style.now (map (λ call. call.now) calls.now) outcome.now)) }
+{
+    match outcome {
+        Ok(ran) => print_ran(out, style, calls, ran),
+        Err(_) => Ok(()),
     }
+}
+
+fn show_calls<O: Write>(heap: Global, out: &mut O, style: &str, calls: &[&str]) -> Result<(), Stop>
+    ensures shows { Shows style.now (map (λ call. call.now) calls.now) result (O.contents out.old) (O.contents out.new) }
+{
+    let batch = read_steps(heap, style, calls).map_err(|fault| fault.at_line(1))?;
+    let outcome = run(heap, &batch)?;
+    print_page(out, style, calls, &outcome)?;
     Ok(())
+}
+
+/// Makes the calls, and prints what comes of them.
+pub fn show<O: Write>(heap: Global, out: &mut O) -> Result<(), Stop>
+    ensures shows { Shows STYLE.now (map (λ call. call.now) CALLS) result (O.contents out.old) (O.contents out.new) }
+{
+    show_calls(heap, out, STYLE, &CALLS)
 }

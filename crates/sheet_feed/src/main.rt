@@ -1,6 +1,11 @@
 // Runs sheet scripts: reads one, makes its calls on writers, and prints what the sinks then hold, or a trace.
 #![tactic(auto)]
 
+ghost use Rattle.std.specs.Prelude.{◌≡◌, None, Some, IfOk, MatchResult};
+ghost use Rattle.std.specs.Process.{exit_status};
+ghost use Rattle.sheet_feed.specs.Exits.{Exits};
+ghost use Rattle.sheet_feed.specs.declared.arguments.Task.TheVariants.{Usage};
+
 mod arguments;
 mod first_task;
 
@@ -38,7 +43,9 @@ fn standard_input(rt: &HostRuntime) -> io::Result<Vec<u8>> {
 }
 
 // The exit status of a run; what stopped it is told last.
-fn ended(rt: &HostRuntime, fed: Result<(), Stop>) -> io::Result<ExitCode> {
+fn ended(rt: &HostRuntime, fed: Result<(), Stop>) -> io::Result<ExitCode>
+    ensures exits { Exits fed result }
+{
     match fed {
         Ok(()) => Ok(ExitCode::SUCCESS),
         Err(Stop::Script(error)) => {
@@ -78,7 +85,9 @@ fn run_file(rt: &HostRuntime, output: Output, name: &str) -> io::Result<ExitCode
     }
 }
 
-fn perform(rt: &HostRuntime, task: Task<'_>) -> io::Result<ExitCode> {
+fn perform(rt: &HostRuntime, task: Task<'_>) -> io::Result<ExitCode>
+    ensures usage { task.entry ≡ Usage → IfOk result (λ status. exit_status status ≡ 0) }
+{
     match task {
         Task::Usage => {
             print!(rt; "{USAGE}")?;
@@ -97,9 +106,12 @@ fn perform(rt: &HostRuntime, task: Task<'_>) -> io::Result<ExitCode> {
     }
 }
 
-fn run(rt: &HostRuntime) -> io::Result<ExitCode> {
-    let words = words(rt)?;
-    match task_of(&words) {
+// What the arguments ask for, or the usage where they ask for nothing.
+fn answer(rt: &HostRuntime, task: Option<Task<'_>>) -> io::Result<ExitCode>
+    ensures none { task.entry ≡ None → IfOk result (λ status. exit_status status ≡ 2) }
+    ensures usage { task.entry ≡ Some Usage → IfOk result (λ status. exit_status status ≡ 0) }
+{
+    match task {
         Some(task) => perform(rt, task),
         None => {
             eprint!(rt; "{USAGE}")?;
@@ -108,12 +120,24 @@ fn run(rt: &HostRuntime) -> io::Result<ExitCode> {
     }
 }
 
-fn main(rt: HostRuntime) -> ExitCode {
-    match run(&rt) {
+fn run(rt: &HostRuntime) -> io::Result<ExitCode> {
+    let words = words(rt)?;
+    answer(rt, task_of(&words))
+}
+
+// The exit status in the end; what failed beside a script is told last.
+fn status_of(rt: &HostRuntime, ran: io::Result<ExitCode>) -> ExitCode
+    ensures status { MatchResult ran (λ status. result ≡ status) (λ _. exit_status result ≡ 2) }
+{
+    match ran {
         Ok(status) => status,
         Err(error) => {
             let _ = eprintln!(rt; "{error}");
             ExitCode::from(FAILED)
         }
     }
+}
+
+fn main(rt: HostRuntime) -> ExitCode {
+    status_of(&rt, run(&rt))
 }
