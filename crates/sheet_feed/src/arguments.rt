@@ -7,10 +7,8 @@ use runner::Output;
 #[derive(Clone, Copy, PartialEq, Eq, Debug)]
 pub enum Task<'a> {
     Usage,
-    /// the script on standard input, or the first task where that is empty
-    Given,
-    /// the trace of the script on standard input
-    Traced,
+    /// the script on standard input
+    Input(Output),
     /// the script of this file
     File(Output, &'a str),
 }
@@ -22,7 +20,7 @@ fn task_of_one(word: &str) -> Task<'_>
     if word == "help" {
         Task::Usage
     } else if word == "trace" {
-        Task::Traced
+        Task::Input(Output::Trace)
     } else {
         Task::File(Output::Plain, word)
     }
@@ -40,7 +38,7 @@ pub fn task_of(words: &[String]) -> Option<Task<'_>>
     ensures asks { Asks result (map string_bytes words.now) }
 {
     match words {
-        [] => Some(Task::Given),
+        [] => Some(Task::Input(Output::Plain)),
         [word] => Some(task_of_one(word.as_str())),
         [word, name] => task_of_two(word.as_str(), name.as_str()),
         _ => None,

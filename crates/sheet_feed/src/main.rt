@@ -93,15 +93,14 @@ fn perform(rt: &HostRuntime, task: Task<'_>) -> io::Result<ExitCode>
             print!(rt; "{USAGE}")?;
             Ok(ExitCode::SUCCESS)
         }
-        Task::Given => {
+        Task::Input(output) => {
             let script = standard_input(rt)?;
-            if script.is_empty() {
+            if script.is_empty() && output == Output::Plain {
                 show(rt)
             } else {
-                run_script(rt, Output::Plain, &script)
+                run_script(rt, output, &script)
             }
         }
-        Task::Traced => run_script(rt, Output::Trace, &standard_input(rt)?),
         Task::File(output, name) => run_file(rt, output, name),
     }
 }
