@@ -4,6 +4,9 @@
 mod replay;
 mod tally;
 
+ghost use Rattle.std.specs.Prelude.{◌≡◌, None, IfOk, MatchResult};
+ghost use Rattle.compared.specs.Replaying.{Judged};
+
 use feed::Batch;
 use replay::told;
 use script::{Fault, Numbered, read_line};
@@ -17,15 +20,32 @@ const SAME: &str = "#= ";
 
 const DIFFERENT: &str = "#! ";
 
+// Judges the answer in this line by what the library answers to the sheet before it. Any other line holds no answer.
+fn judge(
+    heap: Global,
+    tally: &mut Tally,
+    sheet: &Batch,
+    number: usize,
+    text: &str,
+) -> Result<bool, Fault>
+    ensures judged { IfOk result (λ judged. Judged sheet.now number text.now judged tally.old tally.new) }
+{
+    if let Some(answer) = text.strip_prefix(SAME) {
+        tally.same(number, answer, told(heap, sheet)?.as_str());
+        Ok(true)
+    } else if let Some(answer) = text.strip_prefix(DIFFERENT) {
+        tally.different(number, answer, told(heap, sheet)?.as_str());
+        Ok(true)
+    } else {
+        Ok(false)
+    }
+}
+
 fn compare(heap: Global, sheets: &str) -> Result<Tally, Fault> {
     let mut tally = Tally::default();
     let mut batch = Batch::at_start(heap);
     for (number, text) in sheets.lines().enumerate() {
-        if let Some(answer) = text.strip_prefix(SAME) {
-            tally.same(number, answer, &told(heap, &batch)?);
-        } else if let Some(answer) = text.strip_prefix(DIFFERENT) {
-            tally.different(number, answer, &told(heap, &batch)?);
-        } else {
+        if !judge(heap, &mut tally, &batch, number, text)? {
             let line = read_line(heap, text.as_bytes())?;
             batch.take(heap, Numbered { number, line })?;
         }
@@ -33,9 +53,11 @@ fn compare(heap: Global, sheets: &str) -> Result<Tally, Fault> {
     Ok(tally)
 }
 
-fn main(rt: HostRuntime) -> io::Result<ExitCode> {
-    let sheets = io::read_to_string(rt.alloc(), rt.stdin())?;
-    match compare(rt.alloc(), &sheets) {
+// Says what came of it; it is a success only where no answer is wrong.
+fn report(rt: &HostRuntime, compared: Result<Tally, Fault>) -> io::Result<ExitCode>
+    ensures status { IfOk result (λ code. code ≡ ExitCode.SUCCESS → MatchResult compared (λ tally. tally.wrong ≡ None) (λ _. ⊥)) }
+{
+    match compared {
         Ok(tally) => {
             println!(rt; "{tally}")?;
             Ok(tally.status())
@@ -45,4 +67,9 @@ fn main(rt: HostRuntime) -> io::Result<ExitCode> {
             Ok(ExitCode::FAILURE)
         }
     }
+}
+
+fn main(rt: HostRuntime) -> io::Result<ExitCode> {
+    let sheets = io::read_to_string(rt.alloc(), rt.stdin())?;
+    report(&rt, compare(rt.alloc(), &sheets))
 }

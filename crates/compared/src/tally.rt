@@ -1,6 +1,7 @@
 // How many answers are as they have to be.
-ghost use Rattle.std.specs.Prelude.{◌≡◌, ◌+◌, ◌-◌, ◌^◌, true, false, min, if◌then◌else◌};
+ghost use Rattle.std.specs.Prelude.{◌≡◌, true, None, Some};
 ghost use Rattle.std.specs.Option.{is_some};
+ghost use Rattle.compared.specs.Tallies.{counted, first_wrong, Same, Different, count_told, wrong_told, tally_told};
 
 use std::fmt;
 use std::process::ExitCode;
@@ -14,8 +15,7 @@ pub struct Count {
 
 impl Count {
     fn add(&mut self, right: bool)
-        ensures all { self.new.all ≡ min (self.old.all + 1) (2 ^ 64 - 1) }
-        ensures right { self.new.right ≡ (if right then min (self.old.right + 1) (2 ^ 64 - 1) else self.old.right) }
+        ensures value { self.new ≡ counted right self.old }
     {
         self.all = self.all.saturating_add(1);
         if right {
@@ -24,7 +24,10 @@ impl Count {
     }
 }
 
+/// As in `3 of 4`.
 impl fmt::Display for Count {
+    ghost output = { λ c. Some (count_told c) };
+
     fn fmt<W: fmt::Write>(&self, f: &mut fmt::Formatter<W>) -> fmt::Result {
         write!(f, "{} of {}", self.right, self.all)
     }
@@ -42,9 +45,7 @@ pub struct Tally {
 impl Tally {
     // A wrong answer is kept, unless one was wrong before.
     fn judge(&mut self, number: usize, right: bool)
-        ensures right { right ≡ true → self.new ≡ self.old }
-        ensures wrong { right ≡ false → is_some self.new.wrong ≡ true }
-        ensures kept { is_some self.old.wrong ≡ true → self.new ≡ self.old }
+        ensures value { self.new ≡ record self.old { wrong = first_wrong number right self.old.wrong } }
     {
         if !right && self.wrong.is_none() {
             self.wrong = Some(number);
@@ -52,9 +53,11 @@ impl Tally {
     }
 
     /// An answer that has to be the crate's.
-    pub fn same(&mut self, number: usize, crates: &str, ours: &str) {
+    pub fn same(&mut self, number: usize, crates: &str, ours: &str)
+        ensures counted { Same number crates.now ours.now self.old self.new }
+    {
         let right = crates == ours;
-        if crates.starts_with("bytes ") {
+        if crates.as_bytes().starts_with(b"bytes ") {
             self.records.add(right);
         } else {
             self.refusals.add(right);
@@ -63,13 +66,19 @@ impl Tally {
     }
 
     /// An answer that has to differ from the crate's.
-    pub fn different(&mut self, number: usize, crates: &str, ours: &str) {
+    pub fn different(&mut self, number: usize, crates: &str, ours: &str)
+        ensures counted { Different number crates.now ours.now self.old self.new }
+    {
         let right = crates != ours;
         self.differences.add(right);
         self.judge(number, right);
     }
 
-    pub fn status(&self) -> ExitCode {
+    /// Success where no answer is wrong.
+    pub fn status(&self) -> ExitCode
+        ensures success { self.now.wrong ≡ None → result ≡ ExitCode.SUCCESS }
+        ensures failure { is_some self.now.wrong ≡ true → result ≡ ExitCode.FAILURE }
+    {
         match self.wrong {
             None => ExitCode::SUCCESS,
             Some(_) => ExitCode::FAILURE,
@@ -77,30 +86,37 @@ impl Tally {
     }
 }
 
-impl fmt::Display for Tally {
+// The line of the first wrong answer, on a line of its own, if one is wrong.
+#[derive(Clone, Copy, PartialEq, Eq, Debug)]
+struct FirstWrong(Option<usize>);
+
+impl fmt::Display for FirstWrong {
+    ghost output = { λ w. Some (wrong_told w.0) };
+
     fn fmt<W: fmt::Write>(&self, f: &mut fmt::Formatter<W>) -> fmt::Result {
-        writeln!(
-            f,
-            "records with the bytes of quick-xml 0.42.0: {}",
-            self.records
-        )?;
-        writeln!(
-            f,
-            "calls refused where it answers Unsupported: {}",
-            self.refusals
-        )?;
+        match self.0 {
+            None => Ok(()),
+            Some(number) => {
+                let line = number.saturating_add(1);
+                write!(f, "\nthe first that is wrong: line {line}")
+            }
+        }
+    }
+}
+
+impl fmt::Display for Tally {
+    ghost output = { λ t. Some (tally_told t) };
+
+    fn fmt<W: fmt::Write>(&self, f: &mut fmt::Formatter<W>) -> fmt::Result {
         write!(
             f,
-            "known differences that still differ: {}",
-            self.differences
-        )?;
-        match self.wrong {
-            None => Ok(()),
-            Some(number) => write!(
-                f,
-                "\nthe first that is wrong: line {}",
-                number.saturating_add(1)
-            ),
-        }
+            "records with the bytes of quick-xml 0.42.0: {}\n\
+             calls refused where it answers Unsupported: {}\n\
+             known differences that still differ: {}{}",
+            self.records,
+            self.refusals,
+            self.differences,
+            FirstWrong(self.wrong)
+        )
     }
 }
