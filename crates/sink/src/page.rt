@@ -1,5 +1,5 @@
 // One page of a paged sink.
-ghost use Rattle.std.specs.Prelude.{◌≡◌, ◌<◌, length, slice_set};
+ghost use Rattle.std.specs.Prelude.{◌≡◌, ◌<◌, length, replicate, slice_set};
 
 #[derive(Clone, Copy, PartialEq, Eq, Debug)]
 pub struct Page {
@@ -8,7 +8,9 @@ pub struct Page {
 }
 
 impl Page {
-    pub fn new() -> Page {
+    pub fn new() -> Page
+        ensures bytes { result.bytes ≡ replicate 256 0 }
+    {
         Page { bytes: [0; 256] }
     }
 

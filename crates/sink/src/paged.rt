@@ -1,5 +1,5 @@
 // A sink of sixteen pages of 256 bytes, in memory of its own.
-ghost use Rattle.std.specs.Prelude.{◌≡◌, ℕ, ◌-◌, ◌≤◌, List, [], length, take, if◌then◌else◌, Some, None, nat_lt, slice_index};
+ghost use Rattle.std.specs.Prelude.{◌≡◌, ℕ, ◌-◌, ◌≤◌, List, [], length, replicate, take, if◌then◌else◌, Some, None, nat_lt, slice_index};
 ghost use Rattle.sink.specs.Puts.{Puts, Keeps};
 ghost use Rattle.sink.specs.Pages.{flat};
 
@@ -26,6 +26,7 @@ impl PageSink {
     pub fn new() -> PageSink
         ensures held { take result.len (flat result.pages.pages) ≡ [] }
         ensures room { 4096 - result.len ≡ 4096 }
+        ensures memory { flat result.pages.pages ≡ replicate 4096 0 }
     {
         PageSink {
             pages: Pages::new(),

@@ -1,5 +1,5 @@
 // The sixteen pages of a paged sink, as one run of bytes.
-ghost use Rattle.std.specs.Prelude.{◌≡◌, ◌+◌, ◌<◌, ◌≤◌, ◌++◌, length, take, slice_index, slice_set};
+ghost use Rattle.std.specs.Prelude.{◌≡◌, ◌+◌, ◌<◌, ◌≤◌, ◌++◌, length, replicate, take, slice_index, slice_set};
 ghost use Rattle.memory.specs.Laid.{laid};
 ghost use Rattle.sink.specs.Pages.{flat};
 
@@ -13,6 +13,7 @@ pub struct Pages {
 
 impl Pages {
     pub(crate) fn new() -> Pages
+        ensures bytes { flat result.pages ≡ replicate 4096 0 }
         ensures len { length (flat result.pages) ≡ 4096 }
     {
         Pages {
