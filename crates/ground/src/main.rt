@@ -35,7 +35,7 @@ fn put<S: Sink>(rt: &HostRuntime, label: &str, sink: &mut S, bytes: &[u8]) -> io
     Ok(())
 }
 
-// The name for one use under one level, into both sinks.
+// The name for one use under one level, into both sinks. The stage is too short for two of the uses.
 fn write<A: Sink, B: Sink>(
     rt: &HostRuntime,
     level: QuoteLevel,
@@ -43,7 +43,7 @@ fn write<A: Sink, B: Sink>(
     buffer: &mut A,
     pages: &mut B,
 ) -> io::Result<()> {
-    let mut stage = [0u8; 128];
+    let mut stage = [0u8; 72];
     match escape_into(&mut stage, 0, TRAIL.as_bytes(), &level, target) {
         Ok(end) => {
             let written = &stage[0..end];
