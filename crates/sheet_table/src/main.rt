@@ -1,6 +1,9 @@
 // Prints what each script named by the arguments gives: its trace, its XML, and the refusals.
 #![tactic(auto)]
 
+ghost use Rattle.std.specs.Prelude.{◌≡◌, true};
+ghost use Rattle.std.specs.Result.{is_err};
+
 use runner::{Feeding, Output, Stop};
 use std::alloc::Global;
 use std::io::{BufWriter, Write};
@@ -53,12 +56,20 @@ fn run(rt: &HostRuntime) -> io::Result<()> {
     out.flush()
 }
 
-fn main(rt: HostRuntime) -> ExitCode {
-    match run(&rt) {
+// The exit status of a run; an error is told.
+fn ended(rt: &HostRuntime, ran: io::Result<()>) -> ExitCode
+    ensures failure { is_err ran ≡ true → result ≡ ExitCode.FAILURE }
+{
+    match ran {
         Ok(()) => ExitCode::SUCCESS,
         Err(error) => {
             let _ = eprintln!(rt; "{error}");
             ExitCode::FAILURE
         }
     }
+}
+
+fn main(rt: HostRuntime) -> ExitCode {
+    let ran = run(&rt);
+    ended(&rt, ran)
 }
