@@ -37,9 +37,10 @@ fn main(rt: HostRuntime) -> io::Result<()> {
     let Ok(style) = Style::new(EmptyElementHandling::SelfClosed, None) else {
         return Ok(());
     };
-    let mut stage = [0u8; 128];
-    let mut names = [0u8; 32];
-    let mut frames = [Frame::list(); 4];
+    // One more of each than a writer uses.
+    let mut stage = [b'.'; 65537];
+    let mut names = [b'.'; 4097];
+    let mut frames = [Frame::list(); 65];
     let mut memory = [0u8; 128];
     let mut sink = BufferSink::new(&mut memory);
     let mut writer = Writer::new(style, &mut stage, &mut names, &mut frames);
@@ -51,5 +52,6 @@ fn main(rt: HostRuntime) -> io::Result<()> {
     if let Ok(text) = well_formed(sink.held()) {
         println!(rt; "{text}")?;
     }
-    Ok(())
+    let kept = stage[65536] == b'.' && names[4096] == b'.' && frames[64] == Frame::list();
+    println!(rt; "behind what a writer uses all is as it was: {kept}")
 }
