@@ -18,7 +18,7 @@ def cell(text):
 
 
 def main():
-    crates = [line.split(":")[0] for line in (ROOT / "crates.txt").read_text().splitlines() if line[:1] not in ("#", "")]
+    crates = [line.split(":")[0].split()[0] for line in (ROOT / "crates.txt").read_text().splitlines() if line[:1] not in ("#", "")]
     for crate in crates:
         edits = sorted((ROOT / "crates" / crate / "must-fail").glob("*.edit"))
         rows = [(path.stem, read_edit(path)) for path in edits]
