@@ -54,6 +54,7 @@ impl Lent {
     }
 
     fn write(&mut self, calls: &Steps, times: usize) -> usize {
+        // SAFETY: each pointer and length are of one vector, and no two of the vectors that are written to are the same.
         unsafe {
             timed_write(
                 calls.steps.as_ptr(),
@@ -176,103 +177,130 @@ impl Ops {
     }
 }
 
-// Nanoseconds for one record, in the fastest of some turns.
-fn timed(times: usize, mut write: impl FnMut(usize) -> usize) -> f64 {
-    (0..TURNS)
-        .map(|_| {
-            let start = Instant::now();
-            assert!(std::hint::black_box(write(times)) > 0);
-            start.elapsed().as_nanos() as f64 / times as f64
-        })
-        .fold(f64::INFINITY, f64::min)
+// Nanoseconds for one record in one turn, and its length.
+fn timed(times: usize, mut write: impl FnMut(usize) -> usize) -> (f64, usize) {
+    let start = Instant::now();
+    let length = std::hint::black_box(write(times));
+    (start.elapsed().as_nanos() as f64 / times as f64, length)
 }
 
-// The same by a program of its own: nanoseconds and the record's length.
+// The same by a program of its own, which prints `nanoseconds TOTAL records TIMES bytes LENGTH`.
 fn timed_by(program: &str, script: &str, times: usize) -> (f64, usize) {
-    (0..TURNS)
-        .map(|_| {
-            let mut child = Command::new(program)
-                .arg(times.to_string())
-                .stdin(Stdio::piped())
-                .stdout(Stdio::piped())
-                .spawn()
-                .expect("the program for the crate starts");
-            let mut input = child.stdin.take().expect("its input is a pipe");
-            input
-                .write_all(script.as_bytes())
-                .expect("it reads its input");
-            drop(input);
-            let answer = child.wait_with_output().expect("it ends").stdout;
-            let answer = String::from_utf8(answer).expect("it prints text");
-            let words: Vec<&str> = answer.split_whitespace().collect();
-            let [_, total, _, records, _, len] = words[..] else {
-                panic!("it answered {answer}");
-            };
-            let total: f64 = total.parse().expect("a number");
-            let records: f64 = records.parse().expect("a number");
-            (total / records, len.parse().expect("a number"))
-        })
-        .fold((f64::INFINITY, 0), |best, next| {
-            if next.0 < best.0 { next } else { best }
-        })
+    let mut child = Command::new(program)
+        .arg(times.to_string())
+        .stdin(Stdio::piped())
+        .stdout(Stdio::piped())
+        .spawn()
+        .expect("the program for the crate starts");
+    let mut input = child.stdin.take().expect("its input is a pipe");
+    input
+        .write_all(script.as_bytes())
+        .expect("it reads its input");
+    drop(input);
+    let answer = child.wait_with_output().expect("it ends").stdout;
+    let answer = String::from_utf8(answer).expect("it prints text");
+    let words: Vec<&str> = answer.split_whitespace().collect();
+    let [_, total, _, records, _, length] = words[..] else {
+        panic!("it answered {answer}");
+    };
+    let total: f64 = total.parse().expect("a number");
+    let records: f64 = records.parse().expect("a number");
+    (total / records, length.parse().expect("a number"))
+}
+
+/// The fastest of some turns, and the length of the record.
+#[derive(Clone, Copy)]
+struct Best {
+    nanoseconds: f64,
+    length: usize,
+}
+
+impl Best {
+    const NONE: Best = Best {
+        nanoseconds: f64::INFINITY,
+        length: 0,
+    };
+
+    fn meet(&mut self, (nanoseconds, length): (f64, usize)) {
+        assert!(length > 0, "a record was refused");
+        self.nanoseconds = self.nanoseconds.min(nanoseconds);
+        self.length = length;
+    }
 }
 
 /// What one record took.
 struct Row {
     shape: Shape,
-    bytes: usize,
-    ours: f64,
-    ported: Option<f64>,
-    packaged: f64,
-    libxml: f64,
+    ours: Best,
+    ported: Option<Best>,
+    packaged: Best,
+    libxml: Option<Best>,
 }
 
 impl Row {
+    // The writers take turns, so that what else the machine does meets all of them. The crate's program starts anew each time,
+    // and so gets turns ten times as long.
     fn of(shape: Shape, lent: &mut Lent, ported: Option<&str>) -> Row {
         let record = shape.record(length);
+        let inner = |(_, value): &(String, Value)| matches!(value, Value::Record(_));
+        assert_eq!(record.fields.iter().any(inner), shape.nested);
         let calls = Steps::of(&record);
-        let bytes = lent.write(&calls, 1);
-        let times = BYTES.div_ceil(bytes);
-        let ours = timed(times, |times| lent.write(&calls, times));
-        let packaged_record = Packaged::of(&record);
-        let mut out = Vec::new();
-        let packaged = timed(times, |times| {
-            packaged_write(&packaged_record, &mut out, times)
-        });
+        let packaged = Packaged::of(&record);
         let ops = Ops::of(&record).ops;
-        let libxml = timed(times, |times| unsafe {
-            libxml_write(ops.as_ptr(), ops.len(), times)
-        });
-        let ported = ported.map(|program| {
-            let (nanoseconds, length) = timed_by(program, &script(&record), times);
-            assert_eq!(length, bytes, "{}", shape.label());
-            nanoseconds
-        });
-        Row {
+        let script = script(&record);
+        let times = BYTES.div_ceil(lent.write(&calls, 1));
+        let mut out = Vec::new();
+        let mut row = Row {
             shape,
-            bytes,
-            ours,
-            ported,
-            packaged,
-            libxml,
+            ours: Best::NONE,
+            ported: ported.map(|_| Best::NONE),
+            packaged: Best::NONE,
+            libxml: (!shape.late_attributes).then_some(Best::NONE),
+        };
+        for _ in 0..TURNS {
+            row.ours
+                .meet(timed(times, |times| lent.write(&calls, times)));
+            row.packaged.meet(timed(times, |times| {
+                packaged_write(&packaged, &mut out, times)
+            }));
+            if let Some(libxml) = &mut row.libxml {
+                // SAFETY: the operations and their count are of one vector, and its strings end in 0 and are never freed.
+                libxml.meet(timed(times, |times| unsafe {
+                    libxml_write(ops.as_ptr(), ops.len(), times)
+                }));
+            }
+            if let (Some(best), Some(program)) = (&mut row.ported, ported) {
+                best.meet(timed_by(program, &script, 10 * times));
+                assert_eq!(best.length, row.ours.length, "{}", shape.label());
+            }
         }
+        row
     }
 
     fn per_byte(&self) -> f64 {
-        self.ours / self.bytes as f64
+        self.ours.nanoseconds / self.ours.length as f64
+    }
+
+    // How many times as long another takes, and the length that it gives; none where it does not take the record.
+    fn beside(&self, other: Option<Best>) -> String {
+        other.map_or("-".to_string(), |best| {
+            let ratio = best.nanoseconds / self.ours.nanoseconds;
+            format!("{ratio:.2} ({} B)", best.length)
+        })
     }
 
     fn print(&self) {
-        let ratio = |other: f64| format!("{:.2}", other / self.ours);
+        let Best {
+            nanoseconds,
+            length,
+        } = self.ours;
         println!(
-            "| {} | {} | {:.0} | {:.2} | {} | {} | {} |",
+            "| {} | {length} | {nanoseconds:.0} | {:.2} | {} | {} | {} |",
             self.shape.label(),
-            self.bytes,
-            self.ours,
             self.per_byte(),
-            self.ported.map_or("-".to_string(), ratio),
-            ratio(self.packaged),
-            ratio(self.libxml),
+            self.beside(self.ported),
+            self.beside(Some(self.packaged)),
+            self.beside(self.libxml),
         );
     }
 }
@@ -294,21 +322,29 @@ fn main() {
         .collect();
     println!();
     for large in rows.iter().filter(|row| row.shape.size == 60_000) {
-        let small = rows.iter().find(|row| {
-            row.shape
-                == Shape {
-                    size: 2_000,
-                    ..large.shape
-                }
-        });
-        if let Some(small) = small {
+        let same = Shape {
+            size: 2_000,
+            ..large.shape
+        };
+        if let Some(small) = rows.iter().find(|row| row.shape == same) {
             let ratio = large.per_byte() / small.per_byte();
             println!(
-                "time per byte to that at 2 KB: {ratio:.2} | {}",
+                "{}, time per byte to that at 2 KB: {ratio:.2}",
                 large.shape.label()
             );
         }
     }
+    let behind = rows
+        .iter()
+        .filter(|row| row.shape.size == 2_000)
+        .filter(|row| {
+            row.ported
+                .is_some_and(|best| best.nanoseconds < row.ours.nanoseconds)
+        });
+    println!(
+        "records of 2 KB on which the crate is faster: {}",
+        behind.count()
+    );
 }
 
 // How long a record is as our writer writes it; one that it refuses is too long.

@@ -19,8 +19,10 @@ size_t libxml_write(const struct op *ops, size_t count, size_t times)
     for (size_t turn = 0; turn < times && !failed; turn++) {
         xmlBufferEmpty(buffer);
         xmlTextWriterPtr writer = xmlNewTextWriterMemory(buffer, 0);
-        if (writer == NULL)
+        if (writer == NULL) {
+            failed = 1;
             break;
+        }
         for (size_t k = 0; k < count; k++) {
             const xmlChar *name = (const xmlChar *)ops[k].name;
             const xmlChar *text = (const xmlChar *)ops[k].text;

@@ -56,7 +56,8 @@ impl Shape {
         format!("{size} | {form} | {escapes} | {attributes}")
     }
 
-    // Trail names and remarks of 12 to 40 bytes; every fifth has an `&`, or every one four bytes that are escaped.
+    // Trail names and remarks. Every fifth has an `&`, or each has two tags' marks and two `&`, and quotation marks besides,
+    // which an attribute replaces too.
     fn text(&self, turn: usize) -> String {
         const WORDS: [&str; 8] = [
             "Alpe",
@@ -80,14 +81,26 @@ impl Shape {
         }
     }
 
-    // A record of two attributes and some texts, in the order that is asked for.
-    fn leaf(&self, name: &'static str, turn: usize, texts: usize) -> Record {
-        let attributes = [("@no", turn.to_string()), ("@grade", self.text(turn + 3))]
-            .map(|(key, text)| (key.to_string(), Value::Text(text)));
-        let children = (0..texts).map(|k| {
+    // A record of a number, some texts and perhaps one more record. Its grade is in ASCII, since libxml2 writes any other
+    // character of an attribute as a reference.
+    fn leaf(
+        &self,
+        name: &'static str,
+        turn: usize,
+        texts: usize,
+        inner: Option<(&str, Record)>,
+    ) -> Record {
+        let grade = self.text(turn + 3).replace('ö', "oe");
+        let mut attributes = vec![("@no".to_string(), Value::Text(turn.to_string()))];
+        if self.size > 200 {
+            attributes.push(("@grade".to_string(), Value::Text(grade)));
+        }
+        let texts = (0..texts).map(|k| {
             let key = ["trail", "from", "to", "remark"][k % 4];
             (key.to_string(), Value::Text(self.text(turn + k)))
         });
+        let inner = inner.map(|(key, record)| (key.to_string(), Value::Record(record)));
+        let children = texts.chain(inner);
         let fields = if self.late_attributes {
             children.chain(attributes).collect()
         } else {
@@ -96,27 +109,34 @@ impl Shape {
         Record { name, fields }
     }
 
-    // So many more texts, or so many records of which each has one within.
+    // A section, which has an edition within.
+    fn section(&self, turn: usize, texts: usize) -> (&'static str, Record) {
+        let edition = self.leaf("edition", turn + 1, 1, None);
+        (
+            "section",
+            self.leaf("section", turn, texts, Some(("edition", edition))),
+        )
+    }
+
+    // So many more texts, or so many sections; a small record has but one section, of so many texts.
     fn grown(&self, count: usize) -> Record {
         if !self.nested {
-            return self.leaf("sheet", 1, count);
+            return self.leaf("sheet", 0, count, None);
         }
-        let mut root = self.leaf("sheet", 1, 1);
-        let own = if self.late_attributes {
+        if self.size == 200 {
+            return self.leaf("sheet", 0, 0, Some(self.section(0, count)));
+        }
+        let mut root = self.leaf("sheet", 0, 1, None);
+        let behind = if self.late_attributes {
             1
         } else {
             root.fields.len()
         };
         let sections = (0..count).map(|turn| {
-            let mut section = self.leaf("section", turn, 2);
-            let inner = self.leaf("edition", turn + 1, 1);
-            section.fields.insert(
-                if self.late_attributes { 1 } else { 3 },
-                ("edition".to_string(), Value::Record(inner)),
-            );
-            ("section".to_string(), Value::Record(section))
+            let (key, record) = self.section(turn, 2);
+            (key.to_string(), Value::Record(record))
         });
-        root.fields.splice(own..own, sections);
+        root.fields.splice(behind..behind, sections);
         root
     }
 

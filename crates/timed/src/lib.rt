@@ -96,3 +96,6 @@ pub extern "C" fn timed_write(
     }
     len
 }
+
+#[cfg(test)]
+mod tests;
