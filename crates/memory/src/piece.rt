@@ -91,10 +91,9 @@ impl<P: Piece> Piece for Option<P> {
     }
 
     fn bound(&self) -> usize {
-        if let Some(piece) = self {
-            piece.bound()
-        } else {
-            0
+        match self {
+            Some(piece) => piece.bound(),
+            None => 0,
         }
     }
 

@@ -4,10 +4,11 @@ use Rattle.std.proofs.Math.Bool.{and-false}
 use Rattle.std.proofs.lemmas.Bool.{both_ways, eqb-true, eqb-false, ne_eqb, lt-ltb, ltb-true}
 use Rattle.std.proofs.lemmas.List.Folds.{list_all_at}
 use Rattle.std.proofs.lemmas.Nat.Bits.{bit_at-zero, bit_at_set_same, bit_at_set_other, and_pow}
-use Rattle.std.proofs.lemmas.Nat.{one_shl, pow_pos}
+use Rattle.std.proofs.lemmas.Nat.{one_shl, pow_pos, and_mask}
 use Rattle.std.specs.Int.{bit_at}
 use Rattle.xml.specs.Escaping.{among, nine, replacement, escaped}
 use Rattle.xml.specs.Marked.{marked}
+use Rattle.xml.proofs.Nine.{nines}
 
 pub unmarked : (b : ℕ) → marked 0 b ≡ false
 unmarked b = ap (λ n. nat_lt b 64 && n == 1) (bit_at-zero b) ∙ and-false (nat_lt b 64)
@@ -71,12 +72,9 @@ marked_more chosen xs i bits h before t asked bits' put b =
     put b ∙ ap (λ m. cond t (b == x) false || m) (before b) ∙ join (among b (take i xs)) (b == x) (chosen b) t same ∙ ap (λ m. m && chosen b) (sym (ap (λ n. among b (take n xs)) next ∙ among_more b xs i h))
 
 -- the nine are below 64
-pub below_64 : (i : ℕ) → i < 9 → get_or (60 ∷ 62 ∷ 39 ∷ 38 ∷ 34 ∷ 9 ∷ 10 ∷ 13 ∷ 32 ∷ []) i 0 < 64
+pub below_64 : (i : ℕ) → i < 9 → get_or nines i 0 < 64
 below_64 i h = one (nat_lt x 64) refl
   where
-    nines : List ℕ
-    nines = 60 ∷ 62 ∷ 39 ∷ 38 ∷ 34 ∷ 9 ∷ 10 ∷ 13 ∷ 32 ∷ []
-
     x : ℕ
     x = get_or nines i 0
 
@@ -114,3 +112,14 @@ bit_tests bits k h = ap (λ m. not (nat_eq m 0)) masked ∙ one (bit_at bits k) 
         none = omega arith
     one (suc zero) l = ap not (ne_eqb (1 * 2 ^ k) 0 (λ e. absurd (omega (arith, e, pow_pos k))))
     one (suc (suc v)) l = absurd (omega arith)
+
+-- the two highest bits of a byte aside, no byte is missed
+pub may_be : (bits b : ℕ) → not (nat_eq (bit_and bits (1 * 2 ^ bit_and b 63 % 2 ^ 64)) 0) ≡ false → marked bits b ≡ false
+may_be bits b none = one (nat_lt b 64) refl
+  where
+    tested : marked bits (b % 64) ≡ false
+    tested = sym (bit_tests bits (b % 64) (omega arith)) ∙ ap (λ k. not (nat_eq (bit_and bits (1 * 2 ^ k % 2 ^ 64)) 0)) (sym (and_mask b 6)) ∙ none
+
+    one : (t : Bool) → nat_lt b 64 ≡ t → marked bits b ≡ false
+    one true e = let low : b % 64 ≡ b = omega (arith, ltb-true b 64 e) in ap (marked bits) (sym low) ∙ tested
+    one false e = ap (λ t. t && bit_at bits b == 1) e

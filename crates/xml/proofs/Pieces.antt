@@ -1,17 +1,15 @@
 -- A value written in runs: the bytes up to the next that is replaced at one stroke, and then the replacement. Assumes nothing.
 use Rattle.std.proofs.Common.{◌≡◌, ℕ, ◌+◌, ◌≤◌, ◌<◌, ◌-◌, Bool, true, false, List, [], ◌∷◌, ◌++◌, length, get_or, take, drop, sym, refl, ap, ◌∙◌, append-nil, arith, length-append}
 use Rattle.std.proofs.lemmas.List.{take_more, take_all, append_assoc, take-append-drop, get_or-drop, length-drop}
+use Rattle.std.proofs.Math.Seq.{take-add}
 use Rattle.std.proofs.lemmas.Grind.{flat_map-append}
 use Rattle.memory.specs.Laid.{laid}
-use Rattle.memory.proofs.Laying.{laid-laid, laid_none}
+use Rattle.memory.proofs.Laying.{laid-laid}
 use Rattle.xml.specs.Escaping.{piece, replacement, escaped}
 
 -- these bytes stand in `out` from `at` up to `end`; before the first, out was d
 abbrev pub Placed : List ℕ → ℕ → List ℕ → ℕ → List ℕ → Type 0
 Placed d at done end out = (end ≡ at + length done) × (out ≡ laid d at done)
-
-pub placed_none : (d : List ℕ) (at : ℕ) → Placed d at [] at d
-placed_none d at = (omega arith, laid_none d at)
 
 pub placed_more : (d : List ℕ) (at : ℕ) (done s : List ℕ) → at + length done + length s ≤ length d → (end : ℕ) (out : List ℕ) → Placed d at done end out → (end' : ℕ) (out' : List ℕ) → end' ≡ end + length s → out' ≡ laid out end s → Placed d at (done ++ s) end' out'
 placed_more d at done s fits end out p end' out' e q = (
@@ -19,7 +17,12 @@ placed_more d at done s fits end out p end' out' e q = (
   q ∙ ap (λ n. laid out n s) p.0 ∙ ap (λ l. laid l (at + length done) s) p.1 ∙ laid-laid d done s at fits,
 )
 
--- one more byte that stays
+-- bytes that stay, and more that do
+pub stays_on : (p : ℕ → Bool) (xs : List ℕ) (i n : ℕ) → escaped p (take i xs) ≡ take i xs → escaped p (take n (drop i xs)) ≡ take n (drop i xs) → escaped p (take (i + n) xs) ≡ take (i + n) xs
+stays_on p xs i n e h =
+    let more = take-add i n xs in
+    ap (escaped p) more ∙ flat_map-append (piece p) (take i xs) (take n (drop i xs)) ∙ ap (λ l. l ++ escaped p (take n (drop i xs))) e ∙ ap (λ l. take i xs ++ l) h ∙ sym more
+
 pub stays_more : (p : ℕ → Bool) (xs : List ℕ) (i : ℕ) → i < length xs → escaped p (take i xs) ≡ take i xs → p (get_or xs i 0) ≡ false → escaped p (take (i + 1) xs) ≡ take (i + 1) xs
 stays_more p xs i h e n =
     let x = get_or xs i 0 in

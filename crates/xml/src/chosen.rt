@@ -1,6 +1,6 @@
 // The bytes that a rule replaces for one use. The rule is asked once for each byte that has a replacement, and not at each byte
 // of a value: a value is walked at the cost of one bit's test a byte.
-ghost use Rattle.std.specs.Prelude.{◌≡◌, ℕ, ◌+◌, ◌-◌, ◌^◌, ◌<◌, ◌≤◌, true, length, min, take, slice_index_or};
+ghost use Rattle.std.specs.Prelude.{◌≡◌, ℕ, ◌+◌, ◌-◌, ◌^◌, ◌<◌, ◌≤◌, true, false, length, min, take, slice_index_or};
 ghost use Rattle.memory.specs.Laid.{laid};
 ghost use Rattle.xml.specs.Escaping.{nine, replacement, piece, escaped};
 ghost use Rattle.xml.specs.Marked.{marked};
@@ -74,18 +74,41 @@ impl Chosen {
         len
     }
 
+    // Whether this byte, or one that differs from it in its two highest bits alone, is replaced.
+    fn may_have(self, byte: u8) -> bool
+        ensures otherwise { result ≡ false → marked self.bits byte ≡ false }
+    {
+        self.bits & (1 << (byte & 63)) != 0
+    }
+
+    // How many bytes stay for sure, up to the next that may be replaced. A loop of its own, of one test a byte: most bytes of
+    // a text are letters, and few of them come near one that is replaced.
+    fn sure_len(self, value: &[u8]) -> usize
+        ensures within { result ≤ length value.now }
+        ensures stays { escaped (marked self.bits) (take result value.now) ≡ take result value.now }
+    {
+        for (i, byte) in value.iter().enumerate() {
+            if self.may_have(*byte) {
+                return i;
+            }
+        }
+        value.len()
+    }
+
     // How many bytes stay as they are, up to the first that is replaced.
     fn run_len(self, value: &[u8]) -> usize
         ensures within { result ≤ length value.now }
         ensures stays { escaped (marked self.bits) (take result value.now) ≡ take result value.now }
         ensures next { result < length value.now → marked self.bits (slice_index_or value.now result 0) ≡ true }
     {
-        for (i, byte) in value.iter().enumerate() {
-            if self.has(*byte) {
-                return i;
+        let mut len = 0;
+        loop {
+            len += self.sure_len(&value[len..]);
+            if len == value.len() || self.has(value[len]) {
+                return len;
             }
+            len += 1;
         }
-        value.len()
     }
 
     /// Lays a value over `out` from `at` on, each of these bytes replaced, and answers where it ends. What stands between two

@@ -58,14 +58,14 @@ fn first_stray(name: &str) -> Option<usize>
     stray
 }
 
-// Whether a byte is a character that begins a name; of the others, some are and are asked for as characters.
+// Whether a byte is an ASCII character that begins a name. One that is not may still belong to a character that does.
 fn is_plain_start(byte: u8) -> bool
     ensures start { result ≡ true → (nat_lt byte 128 && is_start byte) ≡ true }
 {
     byte.is_ascii_alphabetic() || matches!(byte, b'_' | b':')
 }
 
-// The same of one that stands in a name.
+// The same of a character that stands in a name.
 fn is_plain(byte: u8) -> bool
     ensures inside { result ≡ true → (nat_lt byte 128 && is_name_char byte) ≡ true }
 {

@@ -1,13 +1,11 @@
-use Rattle.std.proofs.Common.{true, false, ◌&&◌, List, [], ◌∷◌, ℕ, get_or, sym, ap, ◌∙◌}
+use Rattle.std.proofs.Common.{true, false, ◌&&◌, get_or, sym, ap, ◌∙◌}
 use Rattle.std.proofs.lemmas.List.{take_all}
 use Rattle.xml.specs.Escaping.{among}
 use Rattle.xml.specs.Marked.{marked}
+use Rattle.xml.proofs.Nine.{nines}
 use Rattle.xml.proofs.Marking.{unmarked, mark, below_64, marked_more, only_nine}
 use Rattle.xml.proofs.chosen.Chosen.by.Goals.{then-replaces, else-replaces}
 use Rattle.xml.proofs.chosen.Chosen.by.Goals as goal
-
-abbrev nines : List ℕ
-nines = 60 ∷ 62 ∷ 39 ∷ 38 ∷ 34 ∷ 9 ∷ 10 ∷ 13 ∷ 32 ∷ []
 
 pub loop-byte-init : goal.loop-byte-init
 loop-byte-init g c = unmarked
