@@ -42,5 +42,11 @@ for script in *.sheet; do
         check "$name.xml, as xmllint reads it" xmllint --noout "$name.xml"
     fi
 done
+
+# A file that is not there is no error of a script.
+"$program" "$work/none" >"$work/out" 2>"$work/err"
+check "no file, exit status" test $? = 2
+check "no file, output" test ! -s "$work/out"
+check "no file, error" test -s "$work/err"
 echo "$passed passed, $failed failed"
 [ $failed = 0 ]
