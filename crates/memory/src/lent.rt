@@ -23,13 +23,15 @@ impl<'a, T> Lent<'a, T> {
         Lent { all, used: 0 }
     }
 
-    /// The same of no more than the first `most` of a slice.
-    pub fn first(all: &'a mut [T], most: usize) -> Lent<'a, T>
-        ensures all { result.all.now ≡ take most all.old }
-        ensures used { result.used ≡ 0 }
+    /// The same of no more than the first `most` of a slice, and the rest of the slice beside it.
+    pub fn parted(all: &'a mut [T], most: usize) -> (Lent<'a, T>, &'a mut [T])
+        ensures all { result.0.all.now ≡ take most all.old }
+        ensures used { result.0.used ≡ 0 }
+        ensures rest { result.1.now ≡ drop most all.old }
     {
         let len = all.len().min(most);
-        Lent::new(&mut all[..len])
+        let (front, rest) = all.split_at_mut(len);
+        (Lent::new(front), rest)
     }
 }
 

@@ -8,11 +8,11 @@ pub invariant_of-result : goal.invariant_of-result
 invariant_of-result c =
     let style = c.args.style in
     record {
-      sound = rw (c.first.ensures.used, c.first-2.ensures.used, c.first-3.ensures.used) (∣ (idle, starting_idle style.empty_elements style.indentation c.first.result.all.now c.first-2.result.all.now c.first-3.result.all.now) ∣₁);
+      sound = rw (c.parted-stage.ensures.used, c.parted-names.ensures.used, c.parted-frames.ensures.used) (∣ (idle, starting_idle style.empty_elements style.indentation c.parted-stage.result.0.all.now c.parted-names.result.0.all.now c.parted-frames.result.0.all.now) ∣₁);
       sizes = record {
-        stage = omega (arith, ap length c.first.ensures.all, length-take 65536 c.args.stage.now);
-        names = omega (arith, ap length c.first-2.ensures.all, length-take 4096 c.args.names.now);
-        frames = omega (arith, ap length c.first-3.ensures.all, length-take 64 c.args.frames.now);
+        stage = omega (arith, ap length c.parted-stage.ensures.all, length-take 65536 c.args.stage.now);
+        names = omega (arith, ap length c.parted-names.ensures.all, length-take 4096 c.args.names.now);
+        frames = omega (arith, ap length c.parted-frames.ensures.all, length-take 64 c.args.frames.now);
         indent = narrow style.indentation style.narrow;
       };
     }
