@@ -2,7 +2,7 @@
 // of a value: a value is walked at the cost of one bit's test a byte.
 ghost use Rattle.std.specs.Prelude.{◌≡◌, ℕ, ◌+◌, ◌-◌, ◌^◌, ◌<◌, ◌≤◌, true, false, length, min, take, slice_index_or};
 ghost use Rattle.memory.specs.Laid.{laid};
-ghost use Rattle.xml.specs.Escaping.{nine, replacement, piece, escaped};
+ghost use Rattle.xml.specs.Escaping.{nine, replacement, escaped};
 ghost use Rattle.xml.specs.Marked.{marked};
 
 use crate::escape::{EscapeRule, Use};
