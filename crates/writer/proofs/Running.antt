@@ -27,35 +27,47 @@ told_answer : (x : Verdict) (r : Result (Unit {0}) Refusal) (w v : Mem) → Told
 told_answer (refuse e) r w v t = ap answered t.0
 told_answer (accept n) r w v t = ap answered t.0
 
-answers-++ : (w : Setting) (xs ys : List model.Call) (s : Session) → answers w (xs ++ ys) s ≡ answers w xs s ++ answers w ys (run w xs s)
+pub answers-++ : (w : Setting) (xs ys : List model.Call) (s : Session) → answers w (xs ++ ys) s ≡ answers w xs s ++ answers w ys (run w xs s)
 answers-++ w [] ys s = refl
 answers-++ w (x ∷ xs) ys s = ap (λ rs. answer w x s ∷ rs) (answers-++ w xs ys (after w x s))
 
-module _ (w : Mem) (bs : Bytes) (k : ℕ) (m : State) where
-  -- before the first call
-  pub ran_none : Lays m w → Ran [] w w bs k bs k [] m
-  ran_none lay = record { memory = lay; held = refl; room = refl; told = refl; same = refl }
+-- before the first call
+pub ran_none : (w : Mem) (bs : Bytes) (k : ℕ) (m : State) → Lays m w → Ran [] w w bs k bs k [] m
+ran_none w bs k m lay = record { memory = lay; held = refl; room = refl; told = refl; same = refl }
 
-  -- one call more
-  pub ran_more : (xs : List model.Call) (c : model.Call) (u v : Mem) (r : Result (Unit {0}) Refusal) (bs₁ bs₂ : Bytes) (k₁ k₂ : ℕ) (rs : List Answer) → Ran xs w u bs k bs₁ k₁ rs m → Serves c r u v bs₁ k₁ bs₂ k₂ → Ran (xs ++ (c ∷ [])) w v bs k bs₂ k₂ (rs ++ (answered r ∷ [])) m
-  ran_more xs c u v r bs₁ bs₂ k₁ k₂ rs p f =
-      let s = run (setting w) xs (session m bs k) in
-      let now : session s.model bs₁ k₁ ≡ s = same_session s.model bs₁ s.sink k₁ s.room p.held p.room in
-      let d = f s.model p.memory in
-      let ends : run (setting w) (xs ++ (c ∷ [])) (session m bs k) ≡ after (setting u) c (session s.model bs₁ k₁) =
-      run-++ (setting w) xs (c ∷ []) (session m bs k) ∙ ap (λ z. after z c s) (sym p.same) ∙ ap (after (setting u) c) (sym now) in
-      let last : answered r ≡ answer (setting w) c s =
-      told_answer (verdict (setting u) k₁ c s.model) r u v d.told ∙ ap (λ z. answer z c (session s.model bs₁ k₁)) p.same ∙ ap (answer (setting w) c) now in
-      record {
-        memory = subst (λ z. Lays z.model v) (sym ends) (told_model (verdict (setting u) k₁ c s.model) s.model r u v bs₁ (handed u.indentation c s.model) k₁ p.memory d.told);
-        held = d.held ∙ sym (ap (λ z. z.sink) ends);
-        room = d.room ∙ sym (ap (λ z. z.room) ends);
-        told = ap (λ z. z ++ (answered r ∷ [])) p.told ∙ ap (λ z. answers (setting w) xs (session m bs k) ++ (z ∷ [])) last ∙ sym (answers-++ (setting w) xs (c ∷ []) (session m bs k));
-        same = told_setting (verdict (setting u) k₁ c s.model) r u v d.told ∙ p.same;
-      }
-    where
-      same_session : (x : State) (a b : Bytes) (i j : ℕ) → a ≡ b → i ≡ j → session x a i ≡ session x b j
-      same_session x a b i j p q = cc
+-- one call
+pub ran_one : (c : model.Call) (r : Result (Unit {0}) Refusal) (w v : Mem) (bs bs' : Bytes) (k k' : ℕ) → Serves c r w v bs k bs' k' → (m : State) → Lays m w → Ran (c ∷ []) w v bs k bs' k' (answered r ∷ []) m
+ran_one c r w v bs bs' k k' f m lay =
+    let d = f m lay in
+    let x = verdict (setting w) k c m in
+    record {
+      memory = told_model x m r w v bs (handed w.indentation c m) k lay d.told;
+      held = d.held;
+      room = d.room;
+      told = ap (λ z. z ∷ []) (told_answer x r w v d.told);
+      same = told_setting x r w v d.told;
+    }
+
+-- calls behind calls
+pub ran_then : (xs ys : List model.Call) (w u v : Mem) (bs bs₁ bs₂ : Bytes) (k k₁ k₂ : ℕ) (rs qs : List Answer) (m : State) → Ran xs w u bs k bs₁ k₁ rs m → ((n : State) → Lays n u → Ran ys u v bs₁ k₁ bs₂ k₂ qs n) → Ran (xs ++ ys) w v bs k bs₂ k₂ (rs ++ qs) m
+ran_then xs ys w u v bs bs₁ bs₂ k k₁ k₂ rs qs m p f =
+    let first = session m bs k in
+    let s = run (setting w) xs first in
+    let q = f s.model p.memory in
+    let now : session s.model bs₁ k₁ ≡ s = same_session s.model bs₁ s.sink k₁ s.room p.held p.room in
+    let ends : run (setting w) (xs ++ ys) first ≡ run (setting u) ys (session s.model bs₁ k₁) =
+    run-++ (setting w) xs ys first ∙ ap (λ z. run z ys s) (sym p.same) ∙ ap (run (setting u) ys) (sym now) in
+    let last : qs ≡ answers (setting w) ys s = q.told ∙ ap (λ z. answers z ys (session s.model bs₁ k₁)) p.same ∙ ap (answers (setting w) ys) now in
+    record {
+      memory = subst (λ z. Lays z.model v) (sym ends) q.memory;
+      held = q.held ∙ sym (ap (λ z. z.sink) ends);
+      room = q.room ∙ sym (ap (λ z. z.room) ends);
+      told = ap (λ z. z ++ qs) p.told ∙ ap (λ z. answers (setting w) xs first ++ z) last ∙ sym (answers-++ (setting w) xs ys first);
+      same = q.same ∙ p.same;
+    }
+  where
+    same_session : (x : State) (a b : Bytes) (i j : ℕ) → a ≡ b → i ≡ j → session x a i ≡ session x b j
+    same_session x a b i j p q = cc
 
 -- the calls up to one more: the last of them is one more call
 pub calls_last : {R : Type 0} (ch : Chooses R) (xs : List (Call R)) (x : Call R) (cs : List model.Call) → CallsAre ch (xs ++ (x ∷ [])) cs → (ds : List model.Call) × (d : model.Call) × (cs ≡ ds ++ (d ∷ [])) × CallsAre ch xs ds × CallIs ch x d
@@ -87,7 +99,7 @@ module _ {R : Type 0} (ch : Chooses R) (calls : List (Call R)) (w : Mem) (bs : B
       let next : take (i + 1) calls ≡ take i calls ++ (x ∷ []) = take_more calls i x low ∙ ap (λ y. take i calls ++ (y ∷ [])) (sym is) in
       let q = calls_last ch (take i calls) x cs (subst (λ z. CallsAre ch z cs) next are) in
       let told : all_answered (take (i + 1) (set rs i r)) ≡ all_answered (take i rs) ++ (answered r ∷ []) = ap all_answered (take_more_set rs i r lower) ∙ answered-++ (take i rs) r in
-      let p = ran_more w bs k m q.0 q.1 u v r bs₁ bs₂ k₁ k₂ (all_answered (take i rs)) (far q.0 q.3 m lay) (serves q.1 q.4) in
+      let p = ran_then q.0 (q.1 ∷ []) w u v bs bs₁ bs₂ k k₁ k₂ (all_answered (take i rs)) (answered r ∷ []) m (far q.0 q.3 m lay) (ran_one q.1 r u v bs₁ bs₂ k₁ k₂ (serves q.1 q.4)) in
       subst (λ z. Ran z w v bs k bs₂ k₂ (all_answered (take (i + 1) (set rs i r))) m) (sym q.2) (subst (λ z. Ran (q.0 ++ (q.1 ∷ [])) w v bs k bs₂ k₂ z m) (sym told) p)
 
   -- all calls have run
