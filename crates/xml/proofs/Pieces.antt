@@ -29,6 +29,18 @@ stays_more p xs i h e n =
     let more = take_more xs i 0 h in
     ap (escaped p) more ∙ flat_map-append (piece p) (take i xs) (x ∷ []) ∙ ap (λ l. l ++ escaped p (x ∷ [])) e ∙ ap (λ l. take i xs ++ l) (rw n refl) ∙ sym more
 
+-- four bytes more that stay
+pub four_more : (p : ℕ → Bool) (xs done rest : List ℕ) → xs ≡ done ++ rest → escaped p done ≡ done → 4 ≤ length rest → p (get_or rest 0 0) ≡ false → p (get_or rest 1 0) ≡ false → p (get_or rest 2 0) ≡ false → p (get_or rest 3 0) ≡ false → (more : List ℕ) × (xs ≡ more ++ take (length rest - 4) (drop 4 rest)) × (escaped p more ≡ more)
+four_more p xs done (a ∷ b ∷ c ∷ d ∷ rest) is e h i j k l =
+    let four = a ∷ b ∷ c ∷ d ∷ [] in
+    let back : take (length (a ∷ b ∷ c ∷ d ∷ rest) - 4) rest ≡ rest = take_all (length (a ∷ b ∷ c ∷ d ∷ rest) - 4) rest (omega arith) in
+    let stay : escaped p four ≡ four = rw i rw j rw k rw l refl in
+    (done ++ four, is ∙ sym (append_assoc done four rest) ∙ ap (λ r. (done ++ four) ++ r) (sym back), flat_map-append (piece p) done four ∙ ap (λ r. r ++ escaped p four) e ∙ ap (λ r. done ++ r) stay)
+four_more p xs done [] is e h i j k l = absurd (omega (arith, h))
+four_more p xs done (a ∷ []) is e h i j k l = absurd (omega (arith, h))
+four_more p xs done (a ∷ b ∷ []) is e h i j k l = absurd (omega (arith, h))
+four_more p xs done (a ∷ b ∷ c ∷ []) is e h i j k l = absurd (omega (arith, h))
+
 -- a run, a byte that is replaced, and what comes behind
 pub in_parts : (p : ℕ → Bool) (run : List ℕ) (b : ℕ) (behind : List ℕ) → escaped p run ≡ run → p b ≡ true → escaped p (run ++ b ∷ behind) ≡ (run ++ replacement b) ++ escaped p behind
 in_parts p run b behind e h =
