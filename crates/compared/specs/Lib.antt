@@ -1,2 +1,3 @@
 pub mod Replaying
 pub mod Tallies
+pub mod Comparing

@@ -1,5 +1,5 @@
 -- What is answered to a sheet, in the words in which the crate's answers are kept. Assumes nothing.
-use Rattle.std.specs.Prelude.{◌≡◌, ◌⊎◌, ◌++◌, ℕ, ◌==◌, ◌||◌, Bool, true, false, List, [], ◌∷◌, Some, None, Option, Ok, Err, Result, codes, vec_items, if◌then◌else◌}
+use Rattle.std.specs.Prelude.{◌≡◌, ◌≢◌, ◌⊎◌, ◌++◌, ℕ, ◌==◌, ◌||◌, Bool, true, false, List, [], ◌∷◌, Some, None, Option, Ok, Err, Result, codes, vec_items, if◌then◌else◌}
 use Rattle.refusal.specs.declared.Refusal.{Refusal}
 use Rattle.refusal.specs.Refusals.{number}
 use Rattle.feed.specs.declared.batch.Batch.{Batch}
@@ -34,9 +34,13 @@ outcome_told (Ok r) = ran_told (first_refused (vec_items r.answers)) (vec_items 
 abbrev pub Tells : Batch → List ℕ → Type 0
 Tells sheet line = (o : Result Ran Refusal) × Becomes sheet o × (line ≡ outcome_told o)
 
+-- neither mark stands at the front of the line
+abbrev pub HoldsNone : List ℕ → Type 0
+HoldsNone text = (crates : List ℕ) → (text ≢ codes "#= " ++ crates) × (text ≢ codes "#! " ++ crates)
+
 -- the line holds an answer to the sheet, behind one of two marks, which is judged by ours; or it holds none
 abbrev pub Judged : Batch → ℕ → List ℕ → Bool → Tally → Tally → Type 0
 Judged sheet n text true t t' =
     (crates : List ℕ) × (ours : List ℕ) × Tells sheet ours
     × (((text ≡ codes "#= " ++ crates) × Same n crates ours t t') ⊎ ((text ≡ codes "#! " ++ crates) × Different n crates ours t t'))
-Judged sheet n text false t t' = t' ≡ t
+Judged sheet n text false t t' = HoldsNone text × (t' ≡ t)

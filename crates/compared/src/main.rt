@@ -4,8 +4,9 @@
 mod replay;
 mod tally;
 
-ghost use Rattle.std.specs.Prelude.{◌≡◌, None, IfOk, MatchResult};
+ghost use Rattle.std.specs.Prelude.{◌≡◌, None, OnOk, IfOk, MatchResult};
 ghost use Rattle.compared.specs.Replaying.{Judged};
+ghost use Rattle.compared.specs.Comparing.{TakesLine, Compares};
 
 use feed::Batch;
 use replay::told;
@@ -41,14 +42,32 @@ fn judge(
     }
 }
 
-fn compare(heap: Global, sheets: &str) -> Result<Tally, Fault> {
+// A line is an answer to the sheet so far, or the next line of a sheet, and never both.
+fn take_line(
+    heap: Global,
+    tally: &mut Tally,
+    batch: &mut Batch,
+    number: usize,
+    text: &str,
+) -> Result<(), Fault>
+    ensures takes { OnOk result (TakesLine number text.now batch.old batch.new tally.old tally.new) }
+{
+    if judge(heap, tally, batch, number, text)? {
+        return Ok(());
+    }
+    let line = read_line(heap, text.as_bytes())?;
+    batch.take(heap, Numbered { number, line })?;
+    Ok(())
+}
+
+// Judges all answers in the input, each by the sheet that stands before it.
+fn compare(heap: Global, sheets: &str) -> Result<Tally, Fault>
+    ensures compares { IfOk result (Compares sheets.now) }
+{
     let mut tally = Tally::default();
     let mut batch = Batch::at_start(heap);
     for (number, text) in sheets.lines().enumerate() {
-        if !judge(heap, &mut tally, &batch, number, text)? {
-            let line = read_line(heap, text.as_bytes())?;
-            batch.take(heap, Numbered { number, line })?;
-        }
+        take_line(heap, &mut tally, &mut batch, number, text)?;
     }
     Ok(tally)
 }

@@ -1,4 +1,4 @@
-use Rattle.std.proofs.Common.{◌≡◌, ◌∷◌, ◌∙◌, sym, ap, subst, inl, inr, string_bytes}
+use Rattle.std.proofs.Common.{◌≡◌, ◌∷◌, ◌∙◌, sym, ap, subst, inl, inr}
 use Rattle.compared.specs.Replaying.{Tells}
 use Rattle.compared.proofs.judge.Goals as goal
 
