@@ -43,6 +43,14 @@ impl<O: Write + Drop, E: Write + Drop> Feeding<O, E> {
         }
     }
 
+    /// Gives the two outputs back.
+    pub fn into_outputs(self) -> (O, E)
+        ensures out { result.0 ≡ self.out }
+        ensures err { result.1 ≡ self.err }
+    {
+        (self.out, self.err)
+    }
+
     pub fn flush(&mut self) -> io::Result<()>
         ensures output { self.new.output ≡ self.old.output }
         ensures out { Keeps (O.contents self.old.out) (O.contents self.new.out) }
