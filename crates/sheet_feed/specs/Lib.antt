@@ -1,3 +1,4 @@
 pub mod Asking
 pub mod FirstTask
 pub mod Exits
+pub mod Ending

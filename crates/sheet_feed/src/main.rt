@@ -1,17 +1,20 @@
 // Runs sheet scripts: reads one, makes its calls on writers, and prints what the sinks then hold, or a trace.
 #![tactic(auto)]
 
-ghost use Rattle.std.specs.Prelude.{◌≡◌, None, Some, IfOk, MatchResult};
+ghost use Rattle.std.specs.Prelude.{◌≡◌, ◌≢◌, [], None, Some, IfOk, MatchResult};
 ghost use Rattle.std.specs.Process.{exit_status};
+ghost use Rattle.runner.specs.declared.feeding.Output.TheVariants.{Plain};
 ghost use Rattle.sheet_feed.specs.Exits.{Exits};
+ghost use Rattle.sheet_feed.specs.Ending.{ExitsFed, ExitsShown};
 ghost use Rattle.sheet_feed.specs.declared.arguments.Task.TheVariants.{Usage};
 
 mod arguments;
+mod buffered;
 mod first_task;
 
 use arguments::{Task, task_of};
-use runner::{Feeding, Output, Stop};
-use std::io::{BufWriter, Read, Write};
+use runner::{Output, Stop};
+use std::io::{BufWriter, Read};
 use std::process::ExitCode;
 use std::{env, fs, io};
 
@@ -56,27 +59,49 @@ fn ended(rt: &HostRuntime, fed: Result<(), Stop>) -> io::Result<ExitCode>
     }
 }
 
-fn run_script(rt: &HostRuntime, output: Output, script: &[u8]) -> io::Result<ExitCode> {
+fn run_script(rt: &HostRuntime, output: Output, script: &[u8]) -> io::Result<ExitCode>
+    ensures exits { IfOk result (ExitsFed output script.now) }
+{
     let heap = rt.alloc();
     let out = BufWriter::new(heap, rt.stdout())?;
     let err = BufWriter::new(heap, rt.stderr())?;
-    let mut feeding = Feeding::new(heap, output, out, err);
-    let fed = feeding.feed(script);
-    feeding.flush()?;
+    let (fed, _, _) = buffered::feed(heap, output, script, out, err)?;
     ended(rt, fed)
 }
 
 // Shows the built-in record.
-fn show(rt: &HostRuntime) -> io::Result<ExitCode> {
+fn show(rt: &HostRuntime) -> io::Result<ExitCode>
+    ensures exits { IfOk result ExitsShown }
+{
     let heap = rt.alloc();
     let mut out = BufWriter::new(heap, rt.stdout())?;
-    let shown = first_task::show(heap, &mut out);
-    out.flush()?;
+    let shown = buffered::show(heap, &mut out)?;
     ended(rt, shown)
 }
 
-fn run_file(rt: &HostRuntime, output: Output, name: &str) -> io::Result<ExitCode> {
-    match fs::read(rt, name) {
+// The script on standard input; with nothing there, and no trace asked for, the built-in record.
+fn run_input(rt: &HostRuntime, output: Output, script: &[u8]) -> io::Result<ExitCode>
+    ensures shown { script.now ≡ [] → output ≡ Plain → IfOk result ExitsShown }
+    ensures fed { script.now ≢ [] → IfOk result (ExitsFed output script.now) }
+    ensures traced { output ≢ Plain → IfOk result (ExitsFed output script.now) }
+{
+    if script.is_empty() && output == Output::Plain {
+        show(rt)
+    } else {
+        run_script(rt, output, script)
+    }
+}
+
+// The script of a file that was read, or why it could not be.
+fn run_read(
+    rt: &HostRuntime,
+    output: Output,
+    name: &str,
+    read: io::Result<Vec<u8>>,
+) -> io::Result<ExitCode>
+    ensures exits { MatchResult read (λ script. IfOk result (ExitsFed output script.items)) (λ _. IfOk result (λ status. exit_status status ≡ 2)) }
+{
+    match read {
         Ok(script) => run_script(rt, output, &script),
         Err(error) => {
             eprintln!(rt; "{name}: {error}")?;
@@ -95,13 +120,9 @@ fn perform(rt: &HostRuntime, task: Task<'_>) -> io::Result<ExitCode>
         }
         Task::Input(output) => {
             let script = standard_input(rt)?;
-            if script.is_empty() && output == Output::Plain {
-                show(rt)
-            } else {
-                run_script(rt, output, &script)
-            }
+            run_input(rt, output, &script)
         }
-        Task::File(output, name) => run_file(rt, output, name),
+        Task::File(output, name) => run_read(rt, output, name, fs::read(rt, name)),
     }
 }
 
