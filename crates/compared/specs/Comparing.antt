@@ -1,5 +1,6 @@
 -- The lines of the input, each an answer or a line of a sheet, and the tally of all answers. Assumes nothing.
-use Rattle.std.specs.Prelude.{◌≡◌, ◌⊎◌, ℕ, ◌+◌, true, List, [], ◌∷◌, ◌++◌, None, Option}
+use Rattle.std.specs.Prelude.{◌≡◌, ◌⊎◌, ℕ, ◌+◌, ◌-◌, ◌^◌, ◌<◌, ◌==◌, ◌||◌, Bool, true, List, [], ◌∷◌, ◌++◌, length, codes, None, Option, if◌then◌else◌}
+use Rattle.std.specs.List.{starts_with}
 use Rattle.std.specs.Str.Lines.{lines}
 use Rattle.script.specs.declared.line.Line.{Line}
 use Rattle.script.specs.declared.line.Numbered.{Numbered}
@@ -39,6 +40,23 @@ none_judged = record {
 -- the tally of all lines of the input, which are numbered from 0 on
 abbrev pub Compares : List ℕ → Tally → Type 0
 Compares sheets t = Leads 0 (lines sheets) [] none_judged t
+
+-- the line holds an answer, behind one mark or the other
+abbrev pub holds_answer : List ℕ → Bool
+holds_answer text = starts_with ◌==◌ text (codes "#= ") || starts_with ◌==◌ text (codes "#! ")
+
+-- how many of these lines do
+abbrev pub answers_in : List (List ℕ) → ℕ
+answers_in [] = 0
+answers_in (text ∷ texts) = if holds_answer text then answers_in texts + 1 else answers_in texts
+
+-- how many answers are counted
+abbrev pub counted_in : Tally → ℕ
+counted_in t = t.records.all + (t.refusals.all + t.differences.all)
+
+-- each line with an answer is counted once, and no other line is
+abbrev pub CountsEachOnce : List ℕ → Tally → Type 0
+CountsEachOnce sheets t = length (lines sheets) < 2 ^ 64 - 1 → counted_in t ≡ answers_in (lines sheets)
 
 -- line k is judged by the batch before it, or is taken into the batch
 abbrev pub TakesLine : ℕ → List ℕ → Batch → Batch → Tally → Tally → Type 0

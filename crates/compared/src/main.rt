@@ -6,7 +6,7 @@ mod tally;
 
 ghost use Rattle.std.specs.Prelude.{◌≡◌, None, OnOk, IfOk, MatchResult};
 ghost use Rattle.compared.specs.Replaying.{Judged};
-ghost use Rattle.compared.specs.Comparing.{TakesLine, Compares};
+ghost use Rattle.compared.specs.Comparing.{TakesLine, Compares, CountsEachOnce};
 
 use feed::Batch;
 use replay::told;
@@ -63,6 +63,7 @@ fn take_line(
 // Judges all answers in the input, each by the sheet that stands before it.
 fn compare(heap: Global, sheets: &str) -> Result<Tally, Fault>
     ensures compares { IfOk result (Compares sheets.now) }
+    ensures once { IfOk result (CountsEachOnce sheets.now) }
 {
     let mut tally = Tally::default();
     let mut batch = Batch::at_start(heap);

@@ -4,7 +4,8 @@ use Rattle.std.proofs.lemmas.List.FromFn.{length-enumerate_from}
 use Rattle.std.proofs.lemmas.Iterator.Consumers.{YieldsList-from_enumerate, YieldsList-at, YieldsList-turn, YieldsList-end}
 use Rattle.std.proofs.lemmas.Iterator.Splits.{YieldsList-from_lines}
 use Rattle.std.specs.Str.Lines.{lines}
-use Rattle.compared.specs.Comparing.{TakesLine}
+use Rattle.compared.specs.Comparing.{TakesLine, Compares}
+use Rattle.compared.proofs.Counting.{counts_each_once}
 use Rattle.compared.proofs.Leading.{Far, numbered, far_start, far_more, far_done}
 use Rattle.compared.proofs.compare.Goals as goal
 
@@ -30,4 +31,5 @@ returns c =
     let texts = lines c.args.sheets.now in
     let road = YieldsList-from_enumerate (YieldsList-at c.enumerate-number-items.ensures.source (YieldsList-from_lines c.args.sheets.now c.lines.ensures.rest)) c.enumerate-number-items.ensures.count in
     let end = YieldsList-end (YieldsList-at c.into_iter-number-iterator.ensures.into_iter_gives road) l.yielded _ l.yielded_by _ _ c.in-None.is c.next.ensures.steps in
-    record { compares = far_done texts (length l.yielded) l.batch l.tally (omega (arith, end.1, length-enumerate_from 0 texts)) l.invariant }
+    let compares : Compares c.args.sheets.now l.tally = far_done texts (length l.yielded) l.batch l.tally (omega (arith, end.1, length-enumerate_from 0 texts)) l.invariant in
+    record { compares = compares; once = counts_each_once c.args.sheets.now l.tally compares }
