@@ -1,6 +1,5 @@
 // Takes a script line by line, runs each writer where the next begins or the script ends, and prints what became of it.
 ghost use Rattle.std.specs.Prelude.{◌≡◌, OnOk};
-ghost use Rattle.std.specs.Io.KnownBytes.{Keeps};
 ghost use Rattle.runner.specs.Feeding.{holds, Gains, written_of, Ends, BreaksOff, Takes, Feeds};
 
 use crate::printing::{print_refusals, print_trace, print_xml};
@@ -49,15 +48,6 @@ impl<O: Write + Drop, E: Write + Drop> Feeding<O, E> {
         ensures err { result.1 ≡ self.err }
     {
         (self.out, self.err)
-    }
-
-    pub fn flush(&mut self) -> io::Result<()>
-        ensures output { self.new.output ≡ self.old.output }
-        ensures out { Keeps (O.contents self.old.out) (O.contents self.new.out) }
-        ensures err { Keeps (E.contents self.old.err) (E.contents self.new.err) }
-    {
-        self.out.flush()?;
-        self.err.flush()
     }
 
     // What became of a writer.
