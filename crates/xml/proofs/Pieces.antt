@@ -1,7 +1,7 @@
 -- A value written in runs: the bytes up to the next that is replaced at one stroke, and then the replacement. Assumes nothing.
-use Rattle.std.proofs.Common.{◌≡◌, ℕ, ◌+◌, ◌≤◌, ◌<◌, ◌-◌, Bool, true, false, List, [], ◌∷◌, ◌++◌, length, get_or, take, drop, sym, refl, ap, ◌∙◌, append-nil, arith, length-append}
+use Rattle.std.proofs.Common.{◌≡◌, ℕ, ◌+◌, ◌≤◌, ◌<◌, ◌-◌, zero, suc, Bool, true, false, List, [], ◌∷◌, ◌++◌, length, get_or, take, drop, sym, refl, ap, ◌∙◌, subst, append-nil, arith, length-append}
 use Rattle.std.proofs.lemmas.List.{take_more, take_all, append_assoc, take-append-drop, get_or-drop, length-drop}
-use Rattle.std.proofs.Math.Seq.{take-add}
+use Rattle.std.proofs.Math.Seq.{take-add, take-append-add}
 use Rattle.std.proofs.lemmas.Grind.{flat_map-append}
 use Rattle.memory.specs.Laid.{laid}
 use Rattle.memory.proofs.Laying.{laid-laid}
@@ -29,17 +29,39 @@ stays_more p xs i h e n =
     let more = take_more xs i 0 h in
     ap (escaped p) more ∙ flat_map-append (piece p) (take i xs) (x ∷ []) ∙ ap (λ l. l ++ escaped p (x ∷ [])) e ∙ ap (λ l. take i xs ++ l) (rw n refl) ∙ sym more
 
--- four bytes more that stay
-pub four_more : (p : ℕ → Bool) (xs done rest : List ℕ) → xs ≡ done ++ rest → escaped p done ≡ done → 4 ≤ length rest → p (get_or rest 0 0) ≡ false → p (get_or rest 1 0) ≡ false → p (get_or rest 2 0) ≡ false → p (get_or rest 3 0) ≡ false → (more : List ℕ) × (xs ≡ more ++ take (length rest - 4) (drop 4 rest)) × (escaped p more ≡ more)
-four_more p xs done (a ∷ b ∷ c ∷ d ∷ rest) is e h i j k l =
-    let four = a ∷ b ∷ c ∷ d ∷ [] in
-    let back : take (length (a ∷ b ∷ c ∷ d ∷ rest) - 4) rest ≡ rest = take_all (length (a ∷ b ∷ c ∷ d ∷ rest) - 4) rest (omega arith) in
-    let stay : escaped p four ≡ four = rw i rw j rw k rw l refl in
-    (done ++ four, is ∙ sym (append_assoc done four rest) ∙ ap (λ r. (done ++ four) ++ r) (sym back), flat_map-append (piece p) done four ∙ ap (λ r. r ++ escaped p four) e ∙ ap (λ r. done ++ r) stay)
-four_more p xs done [] is e h i j k l = absurd (omega (arith, h))
-four_more p xs done (a ∷ []) is e h i j k l = absurd (omega (arith, h))
-four_more p xs done (a ∷ b ∷ []) is e h i j k l = absurd (omega (arith, h))
-four_more p xs done (a ∷ b ∷ c ∷ []) is e h i j k l = absurd (omega (arith, h))
+-- as many bytes as are not replaced
+all_stay : (p : ℕ → Bool) (xs : List ℕ) (n : ℕ) → n ≤ length xs → ((i : ℕ) → i < n → p (get_or xs i 0) ≡ false) → escaped p (take n xs) ≡ take n xs
+all_stay p xs zero h f = refl
+all_stay p xs (suc n) h f =
+    let on : n + 1 ≡ suc n = omega arith in
+    subst (λ k. escaped p (take k xs) ≡ take k xs) on (stays_more p xs n (omega (arith, h)) (all_stay p xs n (omega (arith, h)) (λ i l. f i (omega (arith, l)))) (f n (omega arith)))
+
+-- as many of the first four
+pub few_stay : (p : ℕ → Bool) (xs : List ℕ) (n : ℕ) → 4 ≤ length xs → n ≤ 4 → (0 < n → p (get_or xs 0 0) ≡ false) → (1 < n → p (get_or xs 1 0) ≡ false) → (2 < n → p (get_or xs 2 0) ≡ false) → (3 < n → p (get_or xs 3 0) ≡ false) → escaped p (take n xs) ≡ take n xs
+few_stay p xs n h w a b c d = all_stay p xs n (omega (arith, h, w)) each
+  where
+    each : (i : ℕ) → i < n → p (get_or xs i 0) ≡ false
+    each zero l = a l
+    each (suc zero) l = b l
+    each (suc (suc zero)) l = c l
+    each (suc (suc (suc zero))) l = d l
+    each (suc (suc (suc (suc i)))) l = absurd (omega (arith, w, l))
+
+-- and where all four do, they stand in front of what is left
+pub four_more : (p : ℕ → Bool) (xs done rest : List ℕ) → xs ≡ done ++ rest → escaped p done ≡ done → escaped p (take 4 rest) ≡ take 4 rest → (more : List ℕ) × (xs ≡ more ++ take (length rest - 4) (drop 4 rest)) × (escaped p more ≡ more)
+four_more p xs done rest is e h =
+    let back : take (length rest - 4) (drop 4 rest) ≡ drop 4 rest = take_all (length rest - 4) (drop 4 rest) (omega (arith, length-drop 4 rest)) in (
+      done ++ take 4 rest,
+      is ∙ ap (λ l. done ++ l) (sym (take-append-drop 4 rest)) ∙ sym (append_assoc done (take 4 rest) (drop 4 rest)) ∙ ap (λ l. (done ++ take 4 rest) ++ l) (sym back),
+      flat_map-append (piece p) done (take 4 rest) ∙ ap (λ l. l ++ escaped p (take 4 rest)) e ∙ ap (λ l. done ++ l) h,
+    )
+
+-- bytes that stay, and of the rest so many more: counted from the front
+pub front_stays : (p : ℕ → Bool) (xs done rest : List ℕ) → xs ≡ done ++ rest → escaped p done ≡ done → (n : ℕ) → escaped p (take n rest) ≡ take n rest → escaped p (take (length xs - length rest + n) xs) ≡ take (length xs - length rest + n) xs
+front_stays p xs done rest is e n h =
+    let size : length xs - length rest + n ≡ length done + n = omega (arith, ap length is, length-append done rest) in
+    let front : take (length xs - length rest + n) xs ≡ done ++ take n rest = ap (λ k. take k xs) size ∙ ap (take (length done + n)) is ∙ take-append-add done rest n in
+    ap (escaped p) front ∙ flat_map-append (piece p) done (take n rest) ∙ ap (λ l. l ++ escaped p (take n rest)) e ∙ ap (λ l. done ++ l) h ∙ sym front
 
 -- a run, a byte that is replaced, and what comes behind
 pub in_parts : (p : ℕ → Bool) (run : List ℕ) (b : ℕ) (behind : List ℕ) → escaped p run ≡ run → p b ≡ true → escaped p (run ++ b ∷ behind) ≡ (run ++ replacement b) ++ escaped p behind

@@ -81,31 +81,45 @@ impl Chosen {
         self.bits & (1 << (byte & 63)) != 0
     }
 
-    // How many bytes stay for sure, four of them at a time: so the end of the value is asked for at each fourth byte only.
-    fn fours_len(self, value: &[u8]) -> usize
+    // Which of four bytes is the first that may be replaced; 4 where none is.
+    #[inline(always)]
+    fn first_of(self, a: u8, b: u8, c: u8, d: u8) -> usize
+        ensures within { result ≤ 4 }
+        ensures a { 0 < result → marked self.bits a ≡ false }
+        ensures b { 1 < result → marked self.bits b ≡ false }
+        ensures c { 2 < result → marked self.bits c ≡ false }
+        ensures d { 3 < result → marked self.bits d ≡ false }
+    {
+        if self.may_have(a) {
+            0
+        } else if self.may_have(b) {
+            1
+        } else if self.may_have(c) {
+            2
+        } else if self.may_have(d) {
+            3
+        } else {
+            4
+        }
+    }
+
+    // How many bytes stay for sure, up to the next that may be replaced. Loops of their own, of one test a byte, and four bytes at
+    // a time: most bytes of a text are letters, and few of them come near one that is replaced.
+    fn sure_len(self, value: &[u8]) -> usize
         ensures within { result ≤ length value.now }
         ensures stays { escaped (marked self.bits) (take result value.now) ≡ take result value.now }
     {
         let mut rest = value;
         while let [a, b, c, d, later @ ..] = rest {
-            if self.may_have(*a) || self.may_have(*b) || self.may_have(*c) || self.may_have(*d) {
-                break;
+            let n = self.first_of(*a, *b, *c, *d);
+            if n < 4 {
+                return value.len() - rest.len() + n;
             }
             rest = later;
         }
-        value.len() - rest.len()
-    }
-
-    // How many bytes stay for sure, up to the next that may be replaced. Loops of their own, of one test a byte: most bytes of
-    // a text are letters, and few of them come near one that is replaced.
-    fn sure_len(self, value: &[u8]) -> usize
-        ensures within { result ≤ length value.now }
-        ensures stays { escaped (marked self.bits) (take result value.now) ≡ take result value.now }
-    {
-        let sure = self.fours_len(value);
-        for (i, byte) in value[sure..].iter().enumerate() {
+        for (i, byte) in rest.iter().enumerate() {
             if self.may_have(*byte) {
-                return sure + i;
+                return value.len() - rest.len() + i;
             }
         }
         value.len()
