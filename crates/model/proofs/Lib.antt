@@ -21,3 +21,4 @@ pub mod Swapping
 pub mod Stacks
 pub mod Frames
 pub mod Memories
+pub mod Depths

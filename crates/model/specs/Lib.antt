@@ -15,4 +15,5 @@ pub mod Pairs
 pub mod Fields
 pub mod Laws
 pub mod Readings
+pub mod Indents
 pub mod Frames

@@ -6,6 +6,7 @@ ghost use Rattle.model.specs.Sheets.{TenSheets};
 ghost use Rattle.model.specs.Pairs.{MetAndNotMet};
 ghost use Rattle.model.specs.Readings.{Readings};
 ghost use Rattle.model.specs.Laws.{StringsToldApart, AnswersByTheTable, MemorySuffices, WantOfMemory, RefusedMeansUnchanged, IndentsAlone, NoIndentAfterText, ReadsBack, AttributesChangePlaces};
+ghost use Rattle.model.specs.Indents.{DepthOfIndents};
 
 mod frame;
 mod place;
@@ -66,6 +67,11 @@ pub fn law_indents_alone()
 /// No indent stands straight after a text, or before a root's start tag.
 pub fn law_no_indent_after_text()
     ensures law { NoIndentAfterText }
+{}
+
+/// An indent is as deep as records are open around its tag.
+pub fn law_depth_of_indents()
+    ensures law { DepthOfIndents }
 {}
 
 /// An attribute's field and the child field next to it may change places.
