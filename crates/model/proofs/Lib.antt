@@ -22,3 +22,4 @@ pub mod Stacks
 pub mod Frames
 pub mod Memories
 pub mod Depths
+pub mod Flags

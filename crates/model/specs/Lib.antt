@@ -16,4 +16,5 @@ pub mod Fields
 pub mod Laws
 pub mod Readings
 pub mod Indents
+pub mod Flags
 pub mod Frames

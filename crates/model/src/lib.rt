@@ -7,6 +7,7 @@ ghost use Rattle.model.specs.Pairs.{MetAndNotMet};
 ghost use Rattle.model.specs.Readings.{Readings};
 ghost use Rattle.model.specs.Laws.{StringsToldApart, AnswersByTheTable, MemorySuffices, WantOfMemory, RefusedMeansUnchanged, IndentsAlone, NoIndentAfterText, ReadsBack, AttributesChangePlaces};
 ghost use Rattle.model.specs.Indents.{DepthOfIndents};
+ghost use Rattle.model.specs.Flags.{IndentsWhereDue};
 
 mod frame;
 mod place;
@@ -72,6 +73,11 @@ pub fn law_no_indent_after_text()
 /// An indent is as deep as records are open around its tag.
 pub fn law_depth_of_indents()
     ensures law { DepthOfIndents }
+{}
+
+/// A call writes an indent exactly where one is due: by the flag of the innermost record or row, and never after a text.
+pub fn law_indents_where_due()
+    ensures law { IndentsWhereDue }
 {}
 
 /// An attribute's field and the child field next to it may change places.

@@ -1,0 +1,347 @@
+-- Each accepted call writes an indent exactly where one is due, and leaves the flag that its child's result asks for.
+use Rattle.std.proofs.Common.{◌≡◌, ℕ, suc, ◌≤◌, Bool, true, false, cond, List, [], ◌∷◌, ◌++◌, length, Some, None, codes, Option, sym, refl, ap, ◌∙◌, subst, append_assoc, arith}
+use Rattle.std.proofs.lemmas.List.{append-nil, map-append}
+use Rattle.style.specs.declared.indentation.Indentation.{Indentation}
+use Rattle.style.specs.declared.result.WriteResult.{WriteResult}
+use Rattle.style.specs.declared.result.WriteResult.TheVariants.{Element, Nothing, SensitiveText, SensitiveNothing}
+use Rattle.style.specs.declared.style.EmptyElementHandling.{EmptyElementHandling}
+use Rattle.xml.specs.declared.escape.Use.TheVariants.{Text as text_use, TextItem as text_item_use}
+use Rattle.xml.specs.Escaping.{escaped}
+use Rattle.reader.specs.Trees.{Bytes}
+use Rattle.model.specs.Strings.{null}
+use Rattle.model.specs.Calls.{Value, val_text, val_none, val_variant, val_wrapped, val_row, val_variant_row, val_record, val_variant_record, Call, call_open, call_field, call_value, call_end, call_finish, call_abandon, Key, key_attribute, key_text, key_value, key_element, key, is_text_name}
+use Rattle.model.specs.Marks.{Mark, tag_byte, tagged, flatten, bytes_of_mark, shut, empty_element, text_element}
+use Rattle.model.specs.Model.{Body, Level, Row, named_row, content_row, Outer, Spot, element, content, text_spot, simple, words, Quote, single, several, State, idle, between, inside, quote, complete, stack, flag, start, child_start}
+use Rattle.model.specs.Step.{Move, done, on, opens_row, opens_record, Quoted, closed, still, gap, item, empty_child, text_child, put_element, put_content, put_text, put_simple, put_word, put, put_quote, attribute, new_level, settle, moved_if, row_state, requoted_if, close, closed_record, leave, leave_quote, field, step, with_body, with_text, no_kids, end_tag}
+use Rattle.model.specs.Layout.{stage, open_tag, below, tag_end, pending, records}
+use Rattle.model.specs.Flags.{open_marks, around, sheet, written, flag_of, Piece, a_text, a_start_tag, an_empty_tag, an_element, Writes, root_tag, child_behind, record_ends, empty_record_ends, row_ends, field_begins, attribute_grows, attribute_ends, finishes, abandons, element_result, content_result, text_result, value_result, result, Notes, in_record, in_content_row, in_named_row, FlagsFollow, IndentsWhereDue}
+use Rattle.model.proofs.Moves.{Whenever}
+use Rattle.model.proofs.Flatten.{flatten-++, flatten_tagged}
+
+-- the stage is the layout of what is written
+module _ (i : Option Indentation) where
+  flat_open : (l : Level) (ls : List Outer) (ms : List Mark) → flatten i (open_marks l ls ++ ms) ≡ open_tag i l ls ++ flatten i ms
+  flat_open l ls ms =
+      let m = bytes_of_mark i (start ls) in
+      flatten-++ i (open_marks l ls) ms ∙ ap (λ z. (m ++ z) ++ flatten i ms) (flatten_tagged i (l.name ++ l.attrs))
+
+  flat_around : (ls : List Outer) → flatten i (around ls) ≡ below i ls
+  flat_around [] = refl
+  flat_around (o ∷ os) =
+      flatten-++ i (around os) (open_marks o.level os ++ o.level.body.kids) ∙ (ap (λ z. z ++ flatten i (open_marks o.level os ++ o.level.body.kids)) (flat_around os) ∙ ap (λ z. below i os ++ z) (flat_open o.level os o.level.body.kids))
+
+  flat_sheet : (l : Level) (ls : List Outer) (p : Bytes) → flatten i (sheet l ls p) ≡ tag_end i l ls p ++ flatten i l.body.kids
+  flat_sheet l ls p =
+      let k = flatten i l.body.kids in
+      let q : flatten i (tagged p ++ l.body.kids) ≡ p ++ k = flatten-++ i (tagged p) l.body.kids ∙ ap (λ z. z ++ k) (flatten_tagged i p) in
+      let r : flatten i (sheet l ls p) ≡ below i ls ++ (open_tag i l ls ++ (p ++ k)) = flatten-++ i (around ls) (open_marks l ls ++ (tagged p ++ l.body.kids)) ∙ (ap (λ z. z ++ flatten i (open_marks l ls ++ (tagged p ++ l.body.kids))) (flat_around ls) ∙ ap (λ z. below i ls ++ z) (flat_open l ls (tagged p ++ l.body.kids) ∙ ap (λ z. open_tag i l ls ++ z) q)) in
+      r ∙ sym (append_assoc (below i ls) (open_tag i l ls ++ p) k ∙ ap (λ z. below i ls ++ z) (append_assoc (open_tag i l ls) p k))
+
+  laid : (st : State) → flatten i (written st) ≡ stage i st
+  laid idle = refl
+  laid (between l ls) = flat_sheet l ls []
+  laid (inside s rs l ls) = flat_sheet l ls []
+  laid (quote q l ls) = flat_sheet l ls (pending q)
+  laid (complete ms) = refl
+
+-- marks behind the children stand behind all
+behind_all : (a o k ms : List Mark) → (a ++ (o ++ k)) ++ ms ≡ a ++ (o ++ (k ++ ms))
+behind_all a o k ms = append_assoc a (o ++ k) ms ∙ ap (λ z. a ++ z) (append_assoc o k ms)
+
+-- a body with a piece written behind it, where m is the `<` of a tag
+record Grown (m : Mark) (old new : Body) : Type 0 where
+  more : List Mark
+  is : new.kids ≡ old.kids ++ more
+  piece : Piece m more
+
+grown : {m : Mark} {b n : Body} {ms : List Mark} → n.kids ≡ b.kids ++ ms → Piece m ms → Grown m b n
+grown {ms = ms} e p = record { more = ms; is = e; piece = p }
+
+-- what a move leaves, beside the result that is said of it
+module _ (m : Mark) (rs : List Row) (b : Body) where
+  abbrev Fits : Option WriteResult → Move → Type 0
+  Fits o (done r n) = (o ≡ Some r) × Grown m b n
+  Fits o (on s n) = (o ≡ None) × (n.flag ≡ b.flag) × Grown m b n
+  Fits o (opens_row r) = (o ≡ None) × (flag (r ∷ rs) b ≡ flag rs b)
+  Fits o (opens_record u n) = o ≡ None
+
+  unchanged : Grown m b b
+  unchanged = grown {b = b} {n = b} (sym (append-nil b.kids)) (a_text [])
+
+  fits_either : (o : Option WriteResult) (t : Bool) (x y : Move) → Fits o x → Fits o y → Fits o (cond t x y)
+  fits_either o true x y h k = h
+  fits_either o false x y h k = k
+
+  texts : (s : Bytes) → Grown m b (with_text b s)
+  texts s = grown {b = b} {n = with_text b s} refl (a_text s)
+
+module _ (f : EmptyElementHandling) (d : ℕ) (rs : List Row) (b : Body) where
+  abbrev less : Mark
+  less = child_start rs b d
+
+  abbrev Suits : Option WriteResult → Option Move → Type 0
+  Suits o x = Whenever (Fits less rs b o) x
+
+  fits_empty : (n : Bytes) → Fits less rs b (Some Element) (empty_child f d rs b n)
+  fits_empty n = (refl, record { more = less ∷ empty_element f n; is = refl; piece = an_empty_tag f n })
+
+  fits_around : (n s : Bytes) → Fits less rs b (Some Element) (text_child f d rs b n s)
+  fits_around n s = (refl, record { more = less ∷ text_element n s; is = refl; piece = an_element n s })
+
+  fits_element : (u n : Bytes) (v : Value) → Suits (element_result v) (put_element f d rs b u n v)
+  fits_element u n (val_text r s) = fits_either less rs b (Some Element) (null s) _ _ (fits_empty n) (fits_around n (escaped (r.chooses text_use) s))
+  fits_element u n val_none = fits_empty n
+  fits_element u n (val_variant r v) = fits_either less rs b (Some Element) (is_text_name v) _ _ (fits_empty n) (fits_around n (escaped (r.chooses text_use) v))
+  fits_element u n (val_wrapped v) = tt
+  fits_element u n val_row = (refl, refl)
+  fits_element u n (val_variant_row v) = tt
+  fits_element u n (val_record m) = refl
+  fits_element u n (val_variant_record v) = tt
+
+  fits_content : (t : Bytes) (v : Value) → Suits (content_result v) (put_content f d rs b t v)
+  fits_content t (val_text r s) = (refl, texts less rs b (escaped (r.chooses text_use) s))
+  fits_content t val_none = (refl, unchanged less rs b)
+  fits_content t (val_variant r v) = go (is_text_name v)
+    where
+      go : (q : Bool) → Fits less rs b (Some (cond q Nothing Element)) (cond q (done Nothing b) (empty_child f d rs b v))
+      go true = (refl, unchanged less rs b)
+      go false = fits_empty v
+  fits_content t (val_wrapped v) = fits_either less rs b None (is_text_name v) (on simple b) (on (element t v) b) (refl, refl, unchanged less rs b) (refl, refl, unchanged less rs b)
+  fits_content t val_row = (refl, refl)
+  fits_content t (val_variant_row v) = fits_either less rs b None (is_text_name v) (on (words false) b) (opens_row (named_row t v (flag rs b))) (refl, refl, unchanged less rs b) (refl, refl)
+  fits_content t (val_record n) = refl
+  fits_content t (val_variant_record v) = refl
+
+  fits_text : (v : Value) → Suits (text_result v) (put_text b v)
+  fits_text (val_text r s) = (refl, texts less rs b (escaped (r.chooses text_use) s))
+  fits_text val_none = (refl, unchanged less rs b)
+  fits_text (val_variant r v) = (refl, texts less rs b (cond (is_text_name v) [] (escaped (r.chooses text_use) v)))
+  fits_text (val_wrapped v) = tt
+  fits_text val_row = (refl, refl, unchanged less rs b)
+  fits_text (val_variant_row v) = tt
+  fits_text (val_record n) = tt
+  fits_text (val_variant_record v) = tt
+
+  fits_simple : (v : Value) → Suits (text_result v) (put_simple b v)
+  fits_simple (val_text r s) = (refl, texts less rs b (escaped (r.chooses text_use) s))
+  fits_simple val_none = (refl, unchanged less rs b)
+  fits_simple (val_variant r v) = (refl, texts less rs b (escaped (r.chooses text_use) v))
+  fits_simple (val_wrapped v) = tt
+  fits_simple val_row = (refl, refl, unchanged less rs b)
+  fits_simple (val_variant_row v) = tt
+  fits_simple (val_record n) = tt
+  fits_simple (val_variant_record v) = tt
+
+  fits_item : (w : Bool) (chosen : ℕ → Bool) (s : Bytes) → Fits less rs b None (item w b chosen s)
+  fits_item w chosen s = fits_either less rs b None (null s) (on (words w) b) _ (refl, refl, unchanged less rs b) (refl, refl, texts less rs b (gap w ++ escaped chosen s))
+
+  fits_word : (w : Bool) (v : Value) → Suits None (put_word w b v)
+  fits_word w (val_text r s) = fits_item w (r.chooses text_item_use) s
+  fits_word w val_none = tt
+  fits_word w (val_variant r v) = fits_item w (r.chooses text_item_use) v
+  fits_word w (val_wrapped v) = tt
+  fits_word w val_row = tt
+  fits_word w (val_variant_row v) = tt
+  fits_word w (val_record n) = tt
+  fits_word w (val_variant_record v) = tt
+
+  fits_put : (t : Bytes) (s : Spot) (v : Value) → Suits (value_result s v) (put f d rs t b s v)
+  fits_put t (element u n) v = fits_element u n v
+  fits_put t (content p) v = fits_content t v
+  fits_put t text_spot v = fits_text v
+  fits_put t simple v = fits_simple v
+  fits_put t (words w) v = fits_word w v
+
+-- a complete child's result is noted, and no record opens
+notes : (r : WriteResult) (rs : List Row) (l : Level) (ls : List Outer) → Notes r (settle r rs l ls)
+notes r [] l ls = in_record refl
+notes r (named_row u n g ∷ rs) l ls = in_named_row
+notes r (content_row t q g ∷ rs) l ls = in_content_row
+
+settle_records : (r : WriteResult) (rs : List Row) (l : Level) (ls : List Outer) → records (settle r rs l ls) ≡ suc (length ls)
+settle_records r [] l ls = refl
+settle_records r (named_row u n g ∷ rs) l ls = refl
+settle_records r (content_row t q g ∷ rs) l ls = refl
+
+settle_written : (r : WriteResult) (rs : List Row) (l : Level) (ls : List Outer) → written (settle r rs l ls) ≡ sheet l ls []
+settle_written r [] l ls = refl
+settle_written r (named_row u n g ∷ rs) l ls = refl
+settle_written r (content_row t q g ∷ rs) l ls = refl
+
+none_some : {r : WriteResult} → ◌≡◌ {A = Option WriteResult} None (Some r) → ⊥
+none_some h = let z : ◌≡◌ {A = ℕ} 0 1 = cc in absurd (omega (arith, z))
+
+module _ (c : Call) (st : State) where
+  flags_noted : (r : WriteResult) (rs : List Row) (l : Level) (ls : List Outer) → result c st ≡ Some r → suc (length ls) ≤ records st → FlagsFollow c st (settle r rs l ls)
+  flags_noted r rs l ls e k =
+      let n = settle_records r rs l ls in
+      record { opened = λ h. absurd (omega (arith, h, n, k)); noted = λ q h. let p : r ≡ q = cc in subst (λ (x : WriteResult). Notes x (settle r rs l ls)) p (notes r rs l ls); kept = λ h x. absurd (none_some (sym x ∙ e)) }
+
+  flags_kept : (next : State) → result c st ≡ None → records next ≡ records st → flag_of next ≡ flag_of st → FlagsFollow c st next
+  flags_kept next e k g =
+      record { opened = λ h. absurd (omega (arith, h, k)); noted = λ q h. absurd (none_some (sym e ∙ h)); kept = λ h x. g }
+
+  flags_opened : (next : State) → result c st ≡ None → records next ≡ suc (records st) → flag_of next ≡ true → FlagsFollow c st next
+  flags_opened next e k g =
+      record { opened = λ h. g; noted = λ q h. absurd (none_some (sym e ∙ h)); kept = λ h x. absurd (omega (arith, h, k)) }
+
+  -- nothing is open any more
+  flags_gone : (next : State) → result c st ≡ None → records next ≡ 0 → (records st ≡ 0 → flag_of next ≡ flag_of st) → FlagsFollow c st next
+  flags_gone next e k g =
+      record { opened = λ h. absurd (omega (arith, h, k)); noted = λ q h. absurd (none_some (sym e ∙ h)); kept = λ h x. g (sym h ∙ k) }
+
+-- both laws of one call
+module _ (f : EmptyElementHandling) where
+  record Follows (c : Call) (st next : State) : Type 0 where
+    writes : Writes f c st (written next)
+    flags : FlagsFollow c st next
+
+  module _ (v : Value) (s : Spot) (rs : List Row) (l : Level) (ls : List Outer) where
+    abbrev at : State
+    at = inside s rs l ls
+
+    abbrev mark : Mark
+    mark = child_start rs l.body (suc (length ls))
+
+    grown_writes : (n : Body) → Grown mark l.body n → Writes f (call_value v) at (sheet (with_body l n) ls [])
+    grown_writes n g =
+        subst (λ (z : List Mark). Writes f (call_value v) at z) (behind_all (around ls) (open_marks l ls) l.body.kids g.more ∙ ap (λ y. around ls ++ (open_marks l ls ++ y)) (sym g.is)) (child_behind g.piece)
+
+    same_writes : Writes f (call_value v) at (sheet l ls [])
+    same_writes = subst (λ (z : List Mark). Writes f (call_value v) at z) (append-nil (sheet l ls [])) (child_behind (a_text []))
+
+    start_writes : (u n : Bytes) → Writes f (call_value v) at (written (between (new_level u n) (record { level = l; rows = rs } ∷ ls)))
+    start_writes u n =
+        let p : mark ∷ tagged n ≡ (mark ∷ tagged (n ++ [])) ++ [] = ap (λ y. mark ∷ tagged y) (sym (append-nil n)) ∙ sym (append-nil (mark ∷ tagged (n ++ []))) in
+        subst (λ (z : List Mark). Writes f (call_value v) at (sheet l ls [] ++ z)) p (child_behind (a_start_tag n))
+
+    same_flag : (rs : List Row) (n : Body) → n.flag ≡ l.body.flag → flag rs n ≡ flag rs l.body
+    same_flag [] n e = e
+    same_flag (named_row t m g ∷ rs) n e = refl
+    same_flag (content_row t r g ∷ rs) n e = refl
+
+    row_follows : (r : Row) → value_result s v ≡ None → flag (r ∷ rs) l.body ≡ flag rs l.body → Follows (call_value v) at (row_state r rs l ls)
+    row_follows (named_row u n g) e k = record { writes = same_writes; flags = flags_kept (call_value v) at _ e refl k }
+    row_follows (content_row t r g) e k = record { writes = same_writes; flags = flags_kept (call_value v) at _ e refl k }
+
+    value_follows : (m : Option Move) → Whenever (Fits mark rs l.body (value_result s v)) m → Whenever (Follows (call_value v) at) (moved_if rs l ls m)
+    value_follows None h = tt
+    value_follows (Some (done r n)) h =
+        record { writes = subst (λ (z : List Mark). Writes f (call_value v) at z) (sym (settle_written r rs (with_body l n) ls)) (grown_writes n h.1); flags = flags_noted (call_value v) at r rs (with_body l n) ls h.0 (omega arith) }
+    value_follows (Some (on x n)) h =
+        record { writes = grown_writes n h.2; flags = flags_kept (call_value v) at (inside x rs (with_body l n) ls) h.0 refl (same_flag rs n h.1) }
+    value_follows (Some (opens_row r)) h = row_follows r h.0 h.1
+    value_follows (Some (opens_record u n)) h = record { writes = start_writes u n; flags = flags_opened (call_value v) at _ h refl refl }
+
+  -- an attribute's bytes go to the end of the tag
+  longer_tag : (l : Level) (ls : List Outer) (a : Bytes) → sheet l ls a ≡ around ls ++ ((start ls ∷ tagged (l.name ++ (l.attrs ++ a))) ++ l.body.kids)
+  longer_tag l ls a =
+      let p : tagged (l.name ++ l.attrs) ++ (tagged a ++ l.body.kids) ≡ tagged (l.name ++ (l.attrs ++ a)) ++ l.body.kids = sym (append_assoc (tagged (l.name ++ l.attrs)) (tagged a) l.body.kids) ∙ ap (λ y. y ++ l.body.kids) (sym (map-append tag_byte (l.name ++ l.attrs) a) ∙ ap tagged (append_assoc l.name l.attrs a)) in
+      ap (λ y. around ls ++ (start ls ∷ y)) p
+
+  quoted_follows : (v : Value) (q : Quote) (l : Level) (ls : List Outer) (o : Option Quoted) → Whenever (Follows (call_value v) (quote q l ls)) (requoted_if l ls o)
+  quoted_follows v q l ls None = tt
+  quoted_follows v q l ls (Some (closed a)) =
+      record { writes = subst (λ (z : List Mark). Writes f (call_value v) (quote q l ls) z) (longer_tag l ls a) (attribute_grows a); flags = flags_kept (call_value v) (quote q l ls) _ refl refl refl }
+  quoted_follows v q l ls (Some (still x)) =
+      record { writes = attribute_grows (pending x); flags = flags_kept (call_value v) (quote q l ls) _ refl refl refl }
+
+  field_follows : (k : Bytes) (l : Level) (ls : List Outer) (q : Key) → Follows (call_field k) (between l ls) (field q l ls)
+  field_follows k l ls (key_attribute n) =
+      record { writes = field_begins (pending (single n)); flags = flags_kept (call_field k) (between l ls) _ refl refl refl }
+  field_follows k l ls key_text =
+      record { writes = field_begins []; flags = flags_kept (call_field k) (between l ls) (inside text_spot [] l ls) refl refl refl }
+  field_follows k l ls key_value =
+      record { writes = field_begins []; flags = flags_kept (call_field k) (between l ls) (inside (content true) [] l ls) refl refl refl }
+  field_follows k l ls (key_element n) =
+      record { writes = field_begins []; flags = flags_kept (call_field k) (between l ls) (field (key_element n) l ls) refl refl refl }
+
+  -- the end of a row or a list
+  ends : (s : Spot) (rs qs : List Row) (l : Level) (ls : List Outer) (r : WriteResult) → result call_end (inside s rs l ls) ≡ Some r → Follows call_end (inside s rs l ls) (settle r qs l ls)
+  ends s rs qs l ls r e =
+      record { writes = subst (λ (z : List Mark). Writes f call_end (inside s rs l ls) z) (sym (settle_written r qs l ls)) row_ends; flags = flags_noted call_end (inside s rs l ls) r qs l ls e (omega arith) }
+
+  leave_follows : (s : Spot) (rs : List Row) (l : Level) (ls : List Outer) → Whenever (Follows call_end (inside s rs l ls)) (leave s rs l ls)
+  leave_follows (element u n) [] l ls = tt
+  leave_follows (element u n) (named_row t m g ∷ rs) l ls = ends (element u n) (named_row t m g ∷ rs) rs l ls Element refl
+  leave_follows (element u n) (content_row t r g ∷ rs) l ls = tt
+  leave_follows (content p) [] l ls = tt
+  leave_follows (content p) (named_row t m g ∷ rs) l ls = tt
+  leave_follows (content p) (content_row t r g ∷ rs) l ls = ends (content p) (content_row t r g ∷ rs) rs l ls r refl
+  leave_follows text_spot rs l ls = tt
+  leave_follows simple rs l ls = tt
+  leave_follows (words w) rs l ls = ends (words w) rs rs l ls SensitiveText refl
+
+  leave_quote_follows : (q : Quote) (l : Level) (ls : List Outer) → Whenever (Follows call_end (quote q l ls)) (leave_quote q l ls)
+  leave_quote_follows (single k) l ls = tt
+  leave_quote_follows (several k v w) l ls =
+      record { writes = subst (λ (z : List Mark). Writes f call_end (quote (several k v w) l ls) z) (longer_tag l ls (attribute k v)) (attribute_ends (attribute k v)); flags = flags_kept call_end (quote (several k v w) l ls) _ refl refl refl }
+
+  -- the marks of a closed record, behind those of the records around it
+  closed_writes : (l : Level) (ls : List Outer) (t : Bool) → no_kids l.body.kids ≡ t →
+      Writes f call_end (between l ls) (around ls ++ (start ls ∷ cond t (tagged (l.name ++ (l.attrs ++ shut f l.name))) (tagged (l.name ++ (l.attrs ++ codes ">")) ++ (l.body.kids ++ end_tag (length ls) l))))
+  closed_writes l ls true e =
+      let p : tagged (l.name ++ l.attrs) ++ tagged (shut f l.name) ≡ tagged (l.name ++ (l.attrs ++ shut f l.name)) = sym (map-append tag_byte (l.name ++ l.attrs) (shut f l.name)) ∙ ap tagged (append_assoc l.name l.attrs (shut f l.name)) in
+      subst (λ (z : List Mark). Writes f call_end (between l ls) (around ls ++ (start ls ∷ z))) p (empty_record_ends e)
+  closed_writes l ls false e =
+      let k = l.body.kids ++ end_tag (length ls) l in
+      let p : tagged (l.name ++ l.attrs) ++ (tagged (codes ">") ++ k) ≡ tagged (l.name ++ (l.attrs ++ codes ">")) ++ k = sym (append_assoc (tagged (l.name ++ l.attrs)) (tagged (codes ">")) k) ∙ ap (λ y. y ++ k) (sym (map-append tag_byte (l.name ++ l.attrs) (codes ">")) ∙ ap tagged (append_assoc l.name l.attrs (codes ">"))) in
+      subst (λ (z : List Mark). Writes f call_end (between l ls) (around ls ++ (start ls ∷ z))) p (record_ends e)
+
+  close_follows : (l : Level) (ls : List Outer) → Follows call_end (between l ls) (close f l ls)
+  close_follows l [] =
+      let w : (t : Bool) → no_kids l.body.kids ≡ t → Writes f call_end (between l []) (start [] ∷ cond t (tagged (l.name ++ (l.attrs ++ shut f l.name))) (tagged (l.name ++ (l.attrs ++ codes ">")) ++ (l.body.kids ++ end_tag 0 l))) = λ t e. closed_writes l [] t e in
+      record { writes = w (no_kids l.body.kids) refl; flags = flags_gone call_end (between l []) _ refl refl (λ h. absurd (omega (arith, h))) }
+  close_follows l (o ∷ os) =
+      let ms = closed_record f (length (o ∷ os)) (start (o ∷ os)) l in
+      let n = with_body o.level (record { kids = o.level.body.kids ++ ms; flag = o.level.body.flag; wordy = false }) in
+      let p : around (o ∷ os) ++ ms ≡ written (settle Element o.rows n os) = behind_all (around os) (open_marks o.level os) o.level.body.kids ms ∙ sym (settle_written Element o.rows n os) in
+      record { writes = subst (λ (z : List Mark). Writes f call_end (between l (o ∷ os)) z) p (closed_writes l (o ∷ os) (no_kids l.body.kids) refl); flags = flags_noted call_end (between l (o ∷ os)) Element o.rows n os refl (omega arith) }
+
+  root_follows : (n : Bytes) → Follows (call_open n) idle (between (new_level [] n) [])
+  root_follows n =
+      let p : tag_byte 60 ∷ tagged n ≡ (tag_byte 60 ∷ tagged (n ++ [])) ++ [] = ap (λ y. tag_byte 60 ∷ tagged y) (sym (append-nil n)) ∙ sym (append-nil (tag_byte 60 ∷ tagged (n ++ []))) in
+      record { writes = subst (λ (z : List Mark). Writes f (call_open n) idle z) p root_tag; flags = flags_opened (call_open n) idle _ refl refl refl }
+
+  abandon_follows : (st : State) → (records st ≡ 0 → flag_of st ≡ false) → Follows call_abandon st idle
+  abandon_follows st h = record { writes = abandons; flags = flags_gone call_abandon st idle refl refl (λ e. sym (h e)) }
+
+  step_follows : (c : Call) (st : State) → Whenever (Follows c st) (step f c st)
+  step_follows (call_open n) idle = root_follows n
+  step_follows (call_open n) (between l ls) = tt
+  step_follows (call_open n) (inside s rs l ls) = tt
+  step_follows (call_open n) (quote q l ls) = tt
+  step_follows (call_open n) (complete ms) = tt
+  step_follows (call_field k) idle = tt
+  step_follows (call_field k) (between l ls) = field_follows k l ls (key k)
+  step_follows (call_field k) (inside s rs l ls) = tt
+  step_follows (call_field k) (quote q l ls) = tt
+  step_follows (call_field k) (complete ms) = tt
+  step_follows (call_value v) idle = tt
+  step_follows (call_value v) (between l ls) = tt
+  step_follows (call_value v) (inside s rs l ls) = value_follows v s rs l ls _ (fits_put f (suc (length ls)) rs l.body (stack rs l) s v)
+  step_follows (call_value v) (quote q l ls) = quoted_follows v q l ls (put_quote q v)
+  step_follows (call_value v) (complete ms) = tt
+  step_follows call_end idle = tt
+  step_follows call_end (between l ls) = close_follows l ls
+  step_follows call_end (inside s rs l ls) = leave_follows s rs l ls
+  step_follows call_end (quote q l ls) = leave_quote_follows q l ls
+  step_follows call_end (complete ms) = tt
+  step_follows call_finish idle = tt
+  step_follows call_finish (between l ls) = tt
+  step_follows call_finish (inside s rs l ls) = tt
+  step_follows call_finish (quote q l ls) = tt
+  step_follows call_finish (complete ms) = record { writes = finishes; flags = flags_kept call_finish (complete ms) idle refl refl refl }
+  step_follows call_abandon idle = tt
+  step_follows call_abandon (between l ls) = abandon_follows (between l ls) (λ e. absurd (omega (arith, e)))
+  step_follows call_abandon (inside s rs l ls) = abandon_follows (inside s rs l ls) (λ e. absurd (omega (arith, e)))
+  step_follows call_abandon (quote q l ls) = abandon_follows (quote q l ls) (λ e. absurd (omega (arith, e)))
+  step_follows call_abandon (complete ms) = abandon_follows (complete ms) (λ e. refl)
+
+-- what is there has what holds whenever something is
+of_next : (P : State → Type 0) (o : Option State) (n : State) → Whenever P o → o ≡ Some n → P n
+of_next P o n h e = let w : Whenever P (Some n) = subst (Whenever P) e h in w
+
+pub indents_where_due : IndentsWhereDue
+indents_where_due f =
+    record { laid_out = laid; writes = λ c st n e. let h = of_next (Follows f c st) (step f c st) n (step_follows f c st) e in h.writes; flags = λ c st n e. let h = of_next (Follows f c st) (step f c st) n (step_follows f c st) e in h.flags; empty_row = λ p rs l ls n e. of_next (λ x. result call_end x ≡ Some SensitiveNothing) _ n refl e }
