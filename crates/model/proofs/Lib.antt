@@ -23,3 +23,4 @@ pub mod Frames
 pub mod Memories
 pub mod Depths
 pub mod Flags
+pub mod Taken

@@ -17,4 +17,5 @@ pub mod Laws
 pub mod Readings
 pub mod Indents
 pub mod Flags
+pub mod Taken
 pub mod Frames

@@ -8,6 +8,7 @@ ghost use Rattle.model.specs.Readings.{Readings};
 ghost use Rattle.model.specs.Laws.{StringsToldApart, AnswersByTheTable, MemorySuffices, WantOfMemory, RefusedMeansUnchanged, IndentsAlone, NoIndentAfterText, ReadsBack, AttributesChangePlaces};
 ghost use Rattle.model.specs.Indents.{DepthOfIndents};
 ghost use Rattle.model.specs.Flags.{IndentsWhereDue};
+ghost use Rattle.model.specs.Taken.{RowsAndSteps};
 
 mod frame;
 mod place;
@@ -38,6 +39,11 @@ pub fn law_strings_told_apart()
 /// Every call is refused on the ground of the first row that applies, or accepted.
 pub fn law_answers_by_the_table()
     ensures law { AnswersByTheTable }
+{}
+
+/// The rows bar what has no step, and nothing that has one but for want of memory, bytes, names and permission.
+pub fn law_rows_and_steps()
+    ensures law { RowsAndSteps }
 {}
 
 /// What a writer holds fits its memory, and what a sink holds and the room left in it are its size.
