@@ -1,61 +1,32 @@
 -- Each accepted call writes an indent exactly where one is due, and leaves the flag that its child's result asks for.
 use Rattle.std.proofs.Common.{◌≡◌, ℕ, suc, ◌≤◌, Bool, true, false, cond, List, [], ◌∷◌, ◌++◌, length, Some, None, codes, Option, sym, refl, ap, ◌∙◌, subst, append_assoc, arith}
 use Rattle.std.proofs.lemmas.List.{append-nil, map-append}
-use Rattle.style.specs.declared.indentation.Indentation.{Indentation}
+use Rattle.refusal.specs.declared.Refusal.{Refusal}
 use Rattle.style.specs.declared.result.WriteResult.{WriteResult}
 use Rattle.style.specs.declared.result.WriteResult.TheVariants.{Element, Nothing, SensitiveText, SensitiveNothing}
 use Rattle.style.specs.declared.style.EmptyElementHandling.{EmptyElementHandling}
+use Rattle.style.specs.Results.{allows_indent}
 use Rattle.xml.specs.declared.escape.Use.TheVariants.{Text as text_use, TextItem as text_item_use}
 use Rattle.xml.specs.Escaping.{escaped}
 use Rattle.reader.specs.Trees.{Bytes}
 use Rattle.model.specs.Strings.{null}
 use Rattle.model.specs.Calls.{Value, val_text, val_none, val_variant, val_wrapped, val_row, val_variant_row, val_record, val_variant_record, Call, call_open, call_field, call_value, call_end, call_finish, call_abandon, Key, key_attribute, key_text, key_value, key_element, key, is_text_name}
-use Rattle.model.specs.Marks.{Mark, tag_byte, tagged, flatten, bytes_of_mark, shut, empty_element, text_element}
+use Rattle.model.specs.Marks.{Mark, tag_byte, tagged, texted, shut, empty_element, text_element}
 use Rattle.model.specs.Model.{Body, Level, Row, named_row, content_row, Outer, Spot, element, content, text_spot, simple, words, Quote, single, several, State, idle, between, inside, quote, complete, stack, flag, start, child_start}
-use Rattle.model.specs.Step.{Move, done, on, opens_row, opens_record, Quoted, closed, still, gap, item, empty_child, text_child, put_element, put_content, put_text, put_simple, put_word, put, put_quote, attribute, new_level, settle, moved_if, row_state, requoted_if, close, closed_record, leave, leave_quote, field, step, with_body, with_text, no_kids, end_tag}
-use Rattle.model.specs.Layout.{stage, open_tag, below, tag_end, pending, records}
-use Rattle.model.specs.Flags.{open_marks, around, sheet, written, flag_of, Piece, a_text, a_start_tag, an_empty_tag, an_element, Writes, root_tag, child_behind, record_ends, empty_record_ends, row_ends, field_begins, attribute_grows, attribute_ends, finishes, abandons, element_result, content_result, text_result, value_result, result, Notes, in_record, in_content_row, in_named_row, FlagsFollow, IndentsWhereDue}
+use Rattle.model.specs.Step.{Move, done, on, opens_row, opens_record, Quoted, closed, still, gap, item, empty_child, text_child, put_element, put_content, put_text, put_simple, put_word, put, put_quote, attribute, new_level, settle, moved_if, row_state, requoted_if, close, closed_record, leave, leave_quote, field, step, with_body, with_flag, with_attribute, with_text, no_kids, end_tag}
+use Rattle.model.specs.Layout.{pending, records, wordy}
+use Rattle.model.specs.Flags.{open_marks, around, sheet, written, flag_of, Piece, a_text, a_start_tag, an_empty_tag, an_element, Writes, root_tag, child_behind, record_ends, empty_record_ends, row_ends, field_begins, attribute_grows, attribute_ends, finishes, abandons, element_result, content_result, text_result, value_result, result, Notes, in_record, in_content_row, in_named_row, FlagsFollow, IndentsWhereDue, DueIndents, text_last}
+use Rattle.model.specs.Table.{Setting, or_stay, next, table, first, judged, handed}
+use Rattle.model.specs.Run.{Session, new, run, after, moved_on}
 use Rattle.model.proofs.Moves.{Whenever}
-use Rattle.model.proofs.Flatten.{flatten-++, flatten_tagged}
-
--- the stage is the layout of what is written
-module _ (i : Option Indentation) where
-  flat_open : (l : Level) (ls : List Outer) (ms : List Mark) → flatten i (open_marks l ls ++ ms) ≡ open_tag i l ls ++ flatten i ms
-  flat_open l ls ms =
-      let m = bytes_of_mark i (start ls) in
-      flatten-++ i (open_marks l ls) ms ∙ ap (λ z. (m ++ z) ++ flatten i ms) (flatten_tagged i (l.name ++ l.attrs))
-
-  flat_around : (ls : List Outer) → flatten i (around ls) ≡ below i ls
-  flat_around [] = refl
-  flat_around (o ∷ os) =
-      flatten-++ i (around os) (open_marks o.level os ++ o.level.body.kids) ∙ (ap (λ z. z ++ flatten i (open_marks o.level os ++ o.level.body.kids)) (flat_around os) ∙ ap (λ z. below i os ++ z) (flat_open o.level os o.level.body.kids))
-
-  flat_sheet : (l : Level) (ls : List Outer) (p : Bytes) → flatten i (sheet l ls p) ≡ tag_end i l ls p ++ flatten i l.body.kids
-  flat_sheet l ls p =
-      let k = flatten i l.body.kids in
-      let q : flatten i (tagged p ++ l.body.kids) ≡ p ++ k = flatten-++ i (tagged p) l.body.kids ∙ ap (λ z. z ++ k) (flatten_tagged i p) in
-      let r : flatten i (sheet l ls p) ≡ below i ls ++ (open_tag i l ls ++ (p ++ k)) = flatten-++ i (around ls) (open_marks l ls ++ (tagged p ++ l.body.kids)) ∙ (ap (λ z. z ++ flatten i (open_marks l ls ++ (tagged p ++ l.body.kids))) (flat_around ls) ∙ ap (λ z. below i ls ++ z) (flat_open l ls (tagged p ++ l.body.kids) ∙ ap (λ z. open_tag i l ls ++ z) q)) in
-      r ∙ sym (append_assoc (below i ls) (open_tag i l ls ++ p) k ∙ ap (λ z. below i ls ++ z) (append_assoc (open_tag i l ls) p k))
-
-  laid : (st : State) → flatten i (written st) ≡ stage i st
-  laid idle = refl
-  laid (between l ls) = flat_sheet l ls []
-  laid (inside s rs l ls) = flat_sheet l ls []
-  laid (quote q l ls) = flat_sheet l ls (pending q)
-  laid (complete ms) = refl
-
--- marks behind the children stand behind all
-behind_all : (a o k ms : List Mark) → (a ++ (o ++ k)) ++ ms ≡ a ++ (o ++ (k ++ ms))
-behind_all a o k ms = append_assoc a (o ++ k) ms ∙ ap (λ z. a ++ z) (append_assoc o k ms)
+use Rattle.model.proofs.Written.{laid, behind_all, last-++, last_texted, last_empty, last_around, last_sheet, last_closed}
 
 -- a body with a piece written behind it, where m is the `<` of a tag
 record Grown (m : Mark) (old new : Body) : Type 0 where
   more : List Mark
   is : new.kids ≡ old.kids ++ more
   piece : Piece m more
-
-grown : {m : Mark} {b n : Body} {ms : List Mark} → n.kids ≡ b.kids ++ ms → Piece m ms → Grown m b n
-grown {ms = ms} e p = record { more = ms; is = e; piece = p }
+  last : new.wordy ≡ text_last old.wordy more
 
 -- what a move leaves, beside the result that is said of it
 module _ (m : Mark) (rs : List Row) (b : Body) where
@@ -66,14 +37,14 @@ module _ (m : Mark) (rs : List Row) (b : Body) where
   Fits o (opens_record u n) = o ≡ None
 
   unchanged : Grown m b b
-  unchanged = grown {b = b} {n = b} (sym (append-nil b.kids)) (a_text [])
+  unchanged = record { more = []; is = sym (append-nil b.kids); piece = a_text []; last = refl }
 
   fits_either : (o : Option WriteResult) (t : Bool) (x y : Move) → Fits o x → Fits o y → Fits o (cond t x y)
   fits_either o true x y h k = h
   fits_either o false x y h k = k
 
   texts : (s : Bytes) → Grown m b (with_text b s)
-  texts s = grown {b = b} {n = with_text b s} refl (a_text s)
+  texts s = record { more = texted s; is = refl; piece = a_text s; last = last_texted b.wordy s }
 
 module _ (f : EmptyElementHandling) (d : ℕ) (rs : List Row) (b : Body) where
   abbrev less : Mark
@@ -83,10 +54,10 @@ module _ (f : EmptyElementHandling) (d : ℕ) (rs : List Row) (b : Body) where
   Suits o x = Whenever (Fits less rs b o) x
 
   fits_empty : (n : Bytes) → Fits less rs b (Some Element) (empty_child f d rs b n)
-  fits_empty n = (refl, record { more = less ∷ empty_element f n; is = refl; piece = an_empty_tag f n })
+  fits_empty n = (refl, record { more = less ∷ empty_element f n; is = refl; piece = an_empty_tag f n; last = sym (last_empty f rs b d n b.wordy) })
 
   fits_around : (n s : Bytes) → Fits less rs b (Some Element) (text_child f d rs b n s)
-  fits_around n s = (refl, record { more = less ∷ text_element n s; is = refl; piece = an_element n s })
+  fits_around n s = (refl, record { more = less ∷ text_element n s; is = refl; piece = an_element n s; last = sym (last_around rs b d n s b.wordy) })
 
   fits_element : (u n : Bytes) (v : Value) → Suits (element_result v) (put_element f d rs b u n v)
   fits_element u n (val_text r s) = fits_either less rs b (Some Element) (null s) _ _ (fits_empty n) (fits_around n (escaped (r.chooses text_use) s))
@@ -190,11 +161,32 @@ module _ (c : Call) (st : State) where
   flags_gone next e k g =
       record { opened = λ h. absurd (omega (arith, h, k)); noted = λ q h. absurd (none_some (sym e ∙ h)); kept = λ h x. g (sym h ∙ k) }
 
--- both laws of one call
+-- `wordy` says whether a text's byte stands last
+abbrev Worded : State → Type 0
+Worded st = wordy st ≡ text_last false (written st)
+
+-- in an innermost record, by its children
+worded : (l : Level) (ls : List Outer) (a : Bytes) → l.body.wordy ≡ text_last false l.body.kids → l.body.wordy ≡ text_last false (sheet l ls a)
+worded l ls a e = e ∙ sym (last_sheet l ls a)
+
+by_children : (l : Level) (ls : List Outer) (a : Bytes) → l.body.wordy ≡ text_last false (sheet l ls a) → l.body.wordy ≡ text_last false l.body.kids
+by_children l ls a e = e ∙ last_sheet l ls a
+
+worded_settle : (r : WriteResult) (rs : List Row) (l : Level) (ls : List Outer) → l.body.wordy ≡ text_last false l.body.kids → Worded (settle r rs l ls)
+worded_settle r [] l ls e = worded (with_body l (with_flag l.body (allows_indent r))) ls [] e
+worded_settle r (named_row u n g ∷ rs) l ls e = worded l ls [] e
+worded_settle r (content_row t q g ∷ rs) l ls e = worded l ls [] e
+
+worded_grown : {m : Mark} (l : Level) (n : Body) → Grown m l.body n → l.body.wordy ≡ text_last false l.body.kids → n.wordy ≡ text_last false n.kids
+worded_grown l n g e =
+    g.last ∙ (ap (λ t. text_last t g.more) e ∙ (sym (last-++ false l.body.kids g.more) ∙ ap (text_last false) (sym g.is)))
+
+-- the three laws of one call
 module _ (f : EmptyElementHandling) where
   record Follows (c : Call) (st next : State) : Type 0 where
     writes : Writes f c st (written next)
     flags : FlagsFollow c st next
+    last : Worded st → Worded next
 
   module _ (v : Value) (s : Spot) (rs : List Row) (l : Level) (ls : List Outer) where
     abbrev at : State
@@ -221,17 +213,17 @@ module _ (f : EmptyElementHandling) where
     same_flag (content_row t r g ∷ rs) n e = refl
 
     row_follows : (r : Row) → value_result s v ≡ None → flag (r ∷ rs) l.body ≡ flag rs l.body → Follows (call_value v) at (row_state r rs l ls)
-    row_follows (named_row u n g) e k = record { writes = same_writes; flags = flags_kept (call_value v) at _ e refl k }
-    row_follows (content_row t r g) e k = record { writes = same_writes; flags = flags_kept (call_value v) at _ e refl k }
+    row_follows (named_row u n g) e k = record { writes = same_writes; flags = flags_kept (call_value v) at _ e refl k; last = λ h. h }
+    row_follows (content_row t r g) e k = record { writes = same_writes; flags = flags_kept (call_value v) at _ e refl k; last = λ h. h }
 
     value_follows : (m : Option Move) → Whenever (Fits mark rs l.body (value_result s v)) m → Whenever (Follows (call_value v) at) (moved_if rs l ls m)
     value_follows None h = tt
     value_follows (Some (done r n)) h =
-        record { writes = subst (λ (z : List Mark). Writes f (call_value v) at z) (sym (settle_written r rs (with_body l n) ls)) (grown_writes n h.1); flags = flags_noted (call_value v) at r rs (with_body l n) ls h.0 (omega arith) }
+        record { writes = subst (λ (z : List Mark). Writes f (call_value v) at z) (sym (settle_written r rs (with_body l n) ls)) (grown_writes n h.1); flags = flags_noted (call_value v) at r rs (with_body l n) ls h.0 (omega arith); last = λ e. worded_settle r rs (with_body l n) ls (worded_grown l n h.1 (by_children l ls [] e)) }
     value_follows (Some (on x n)) h =
-        record { writes = grown_writes n h.2; flags = flags_kept (call_value v) at (inside x rs (with_body l n) ls) h.0 refl (same_flag rs n h.1) }
+        record { writes = grown_writes n h.2; flags = flags_kept (call_value v) at (inside x rs (with_body l n) ls) h.0 refl (same_flag rs n h.1); last = λ e. worded (with_body l n) ls [] (worded_grown l n h.2 (by_children l ls [] e)) }
     value_follows (Some (opens_row r)) h = row_follows r h.0 h.1
-    value_follows (Some (opens_record u n)) h = record { writes = start_writes u n; flags = flags_opened (call_value v) at _ h refl refl }
+    value_follows (Some (opens_record u n)) h = record { writes = start_writes u n; flags = flags_opened (call_value v) at _ h refl refl; last = λ e. worded (new_level u n) (record { level = l; rows = rs } ∷ ls) [] refl }
 
   -- an attribute's bytes go to the end of the tag
   longer_tag : (l : Level) (ls : List Outer) (a : Bytes) → sheet l ls a ≡ around ls ++ ((start ls ∷ tagged (l.name ++ (l.attrs ++ a))) ++ l.body.kids)
@@ -242,24 +234,24 @@ module _ (f : EmptyElementHandling) where
   quoted_follows : (v : Value) (q : Quote) (l : Level) (ls : List Outer) (o : Option Quoted) → Whenever (Follows (call_value v) (quote q l ls)) (requoted_if l ls o)
   quoted_follows v q l ls None = tt
   quoted_follows v q l ls (Some (closed a)) =
-      record { writes = subst (λ (z : List Mark). Writes f (call_value v) (quote q l ls) z) (longer_tag l ls a) (attribute_grows a); flags = flags_kept (call_value v) (quote q l ls) _ refl refl refl }
+      record { writes = subst (λ (z : List Mark). Writes f (call_value v) (quote q l ls) z) (longer_tag l ls a) (attribute_grows a); flags = flags_kept (call_value v) (quote q l ls) _ refl refl refl; last = λ e. worded (with_attribute l a) ls [] (by_children l ls (pending q) e) }
   quoted_follows v q l ls (Some (still x)) =
-      record { writes = attribute_grows (pending x); flags = flags_kept (call_value v) (quote q l ls) _ refl refl refl }
+      record { writes = attribute_grows (pending x); flags = flags_kept (call_value v) (quote q l ls) _ refl refl refl; last = λ e. worded l ls (pending x) (by_children l ls (pending q) e) }
 
   field_follows : (k : Bytes) (l : Level) (ls : List Outer) (q : Key) → Follows (call_field k) (between l ls) (field q l ls)
   field_follows k l ls (key_attribute n) =
-      record { writes = field_begins (pending (single n)); flags = flags_kept (call_field k) (between l ls) _ refl refl refl }
+      record { writes = field_begins (pending (single n)); flags = flags_kept (call_field k) (between l ls) _ refl refl refl; last = λ e. worded l ls (pending (single n)) (by_children l ls [] e) }
   field_follows k l ls key_text =
-      record { writes = field_begins []; flags = flags_kept (call_field k) (between l ls) (inside text_spot [] l ls) refl refl refl }
+      record { writes = field_begins []; flags = flags_kept (call_field k) (between l ls) (inside text_spot [] l ls) refl refl refl; last = λ e. e }
   field_follows k l ls key_value =
-      record { writes = field_begins []; flags = flags_kept (call_field k) (between l ls) (inside (content true) [] l ls) refl refl refl }
+      record { writes = field_begins []; flags = flags_kept (call_field k) (between l ls) (inside (content true) [] l ls) refl refl refl; last = λ e. e }
   field_follows k l ls (key_element n) =
-      record { writes = field_begins []; flags = flags_kept (call_field k) (between l ls) (field (key_element n) l ls) refl refl refl }
+      record { writes = field_begins []; flags = flags_kept (call_field k) (between l ls) (field (key_element n) l ls) refl refl refl; last = λ e. e }
 
   -- the end of a row or a list
   ends : (s : Spot) (rs qs : List Row) (l : Level) (ls : List Outer) (r : WriteResult) → result call_end (inside s rs l ls) ≡ Some r → Follows call_end (inside s rs l ls) (settle r qs l ls)
   ends s rs qs l ls r e =
-      record { writes = subst (λ (z : List Mark). Writes f call_end (inside s rs l ls) z) (sym (settle_written r qs l ls)) row_ends; flags = flags_noted call_end (inside s rs l ls) r qs l ls e (omega arith) }
+      record { writes = subst (λ (z : List Mark). Writes f call_end (inside s rs l ls) z) (sym (settle_written r qs l ls)) row_ends; flags = flags_noted call_end (inside s rs l ls) r qs l ls e (omega arith); last = λ e. worded_settle r qs l ls (by_children l ls [] e) }
 
   leave_follows : (s : Spot) (rs : List Row) (l : Level) (ls : List Outer) → Whenever (Follows call_end (inside s rs l ls)) (leave s rs l ls)
   leave_follows (element u n) [] l ls = tt
@@ -275,7 +267,7 @@ module _ (f : EmptyElementHandling) where
   leave_quote_follows : (q : Quote) (l : Level) (ls : List Outer) → Whenever (Follows call_end (quote q l ls)) (leave_quote q l ls)
   leave_quote_follows (single k) l ls = tt
   leave_quote_follows (several k v w) l ls =
-      record { writes = subst (λ (z : List Mark). Writes f call_end (quote (several k v w) l ls) z) (longer_tag l ls (attribute k v)) (attribute_ends (attribute k v)); flags = flags_kept call_end (quote (several k v w) l ls) _ refl refl refl }
+      record { writes = subst (λ (z : List Mark). Writes f call_end (quote (several k v w) l ls) z) (longer_tag l ls (attribute k v)) (attribute_ends (attribute k v)); flags = flags_kept call_end (quote (several k v w) l ls) _ refl refl refl; last = λ e. worded (with_attribute l (attribute k v)) ls [] (by_children l ls (pending (several k v w)) e) }
 
   -- the marks of a closed record, behind those of the records around it
   closed_writes : (l : Level) (ls : List Outer) (t : Bool) → no_kids l.body.kids ≡ t →
@@ -291,20 +283,20 @@ module _ (f : EmptyElementHandling) where
   close_follows : (l : Level) (ls : List Outer) → Follows call_end (between l ls) (close f l ls)
   close_follows l [] =
       let w : (t : Bool) → no_kids l.body.kids ≡ t → Writes f call_end (between l []) (start [] ∷ cond t (tagged (l.name ++ (l.attrs ++ shut f l.name))) (tagged (l.name ++ (l.attrs ++ codes ">")) ++ (l.body.kids ++ end_tag 0 l))) = λ t e. closed_writes l [] t e in
-      record { writes = w (no_kids l.body.kids) refl; flags = flags_gone call_end (between l []) _ refl refl (λ h. absurd (omega (arith, h))) }
+      record { writes = w (no_kids l.body.kids) refl; flags = flags_gone call_end (between l []) _ refl refl (λ h. absurd (omega (arith, h))); last = λ e. sym (last_closed f l [] false) }
   close_follows l (o ∷ os) =
       let ms = closed_record f (length (o ∷ os)) (start (o ∷ os)) l in
       let n = with_body o.level (record { kids = o.level.body.kids ++ ms; flag = o.level.body.flag; wordy = false }) in
       let p : around (o ∷ os) ++ ms ≡ written (settle Element o.rows n os) = behind_all (around os) (open_marks o.level os) o.level.body.kids ms ∙ sym (settle_written Element o.rows n os) in
-      record { writes = subst (λ (z : List Mark). Writes f call_end (between l (o ∷ os)) z) p (closed_writes l (o ∷ os) (no_kids l.body.kids) refl); flags = flags_noted call_end (between l (o ∷ os)) Element o.rows n os refl (omega arith) }
+      record { writes = subst (λ (z : List Mark). Writes f call_end (between l (o ∷ os)) z) p (closed_writes l (o ∷ os) (no_kids l.body.kids) refl); flags = flags_noted call_end (between l (o ∷ os)) Element o.rows n os refl (omega arith); last = λ e. worded_settle Element o.rows n os (sym (last-++ false o.level.body.kids ms ∙ last_closed f l (o ∷ os) (text_last false o.level.body.kids))) }
 
   root_follows : (n : Bytes) → Follows (call_open n) idle (between (new_level [] n) [])
   root_follows n =
       let p : tag_byte 60 ∷ tagged n ≡ (tag_byte 60 ∷ tagged (n ++ [])) ++ [] = ap (λ y. tag_byte 60 ∷ tagged y) (sym (append-nil n)) ∙ sym (append-nil (tag_byte 60 ∷ tagged (n ++ []))) in
-      record { writes = subst (λ (z : List Mark). Writes f (call_open n) idle z) p root_tag; flags = flags_opened (call_open n) idle _ refl refl refl }
+      record { writes = subst (λ (z : List Mark). Writes f (call_open n) idle z) p root_tag; flags = flags_opened (call_open n) idle _ refl refl refl; last = λ e. worded (new_level [] n) [] [] refl }
 
   abandon_follows : (st : State) → (records st ≡ 0 → flag_of st ≡ false) → Follows call_abandon st idle
-  abandon_follows st h = record { writes = abandons; flags = flags_gone call_abandon st idle refl refl (λ e. sym (h e)) }
+  abandon_follows st h = record { writes = abandons; flags = flags_gone call_abandon st idle refl refl (λ e. sym (h e)); last = λ e. refl }
 
   step_follows : (c : Call) (st : State) → Whenever (Follows c st) (step f c st)
   step_follows (call_open n) idle = root_follows n
@@ -331,7 +323,7 @@ module _ (f : EmptyElementHandling) where
   step_follows call_finish (between l ls) = tt
   step_follows call_finish (inside s rs l ls) = tt
   step_follows call_finish (quote q l ls) = tt
-  step_follows call_finish (complete ms) = record { writes = finishes; flags = flags_kept call_finish (complete ms) idle refl refl refl }
+  step_follows call_finish (complete ms) = record { writes = finishes; flags = flags_kept call_finish (complete ms) idle refl refl refl; last = λ e. refl }
   step_follows call_abandon idle = tt
   step_follows call_abandon (between l ls) = abandon_follows (between l ls) (λ e. absurd (omega (arith, e)))
   step_follows call_abandon (inside s rs l ls) = abandon_follows (inside s rs l ls) (λ e. absurd (omega (arith, e)))
@@ -342,6 +334,23 @@ module _ (f : EmptyElementHandling) where
 of_next : (P : State → Type 0) (o : Option State) (n : State) → Whenever P o → o ≡ Some n → P n
 of_next P o n h e = let w : Whenever P (Some n) = subst (Whenever P) e h in w
 
-pub indents_where_due : IndentsWhereDue
-indents_where_due f =
+due_indents : (f : EmptyElementHandling) → DueIndents f
+due_indents f =
     record { laid_out = laid; writes = λ c st n e. let h = of_next (Follows f c st) (step f c st) n (step_follows f c st) e in h.writes; flags = λ c st n e. let h = of_next (Follows f c st) (step f c st) n (step_follows f c st) e in h.flags; empty_row = λ p rs l ls n e. of_next (λ x. result call_end x ≡ Some SensitiveNothing) _ n refl e }
+
+-- over a run
+module _ (w : Setting) where
+  worded_or_stay : (c : Call) (st : State) → Worded st → (o : Option State) → Whenever (Follows w.form c st) o → Worded (or_stay st o)
+  worded_or_stay c st e None h = e
+  worded_or_stay c st e (Some n) h = h.last e
+
+  worded_judged : (c : Call) (s : Session) → Worded s.model → (o : Option Refusal) → Worded (moved_on s (handed w.indentation c s.model) (judged o (next w.form c s.model))).model
+  worded_judged c s e (Some x) = e
+  worded_judged c s e None = worded_or_stay c s.model e (step w.form c s.model) (step_follows w.form c s.model)
+
+  worded_run : (cs : List Call) (s : Session) → Worded s.model → Worded (run w cs s).model
+  worded_run [] s e = e
+  worded_run (c ∷ cs) s e = worded_run cs (after w c s) (worded_judged c s e (first (table w s.room c s.model)))
+
+pub indents_where_due : IndentsWhereDue
+indents_where_due = (due_indents, λ w cs r. worded_run w cs (new r) refl)

@@ -22,5 +22,6 @@ pub mod Stacks
 pub mod Frames
 pub mod Memories
 pub mod Depths
+pub mod Written
 pub mod Flags
 pub mod Taken

@@ -1,5 +1,5 @@
 -- Which tags have an indent, and what each call does to the flags that say so. Assumes nothing.
-use Rattle.std.specs.Prelude.{◌≡◌, suc, Bool, true, false, cond, not, ◌&&◌, List, [], ◌∷◌, ◌++◌, length, Some, None, codes, Option}
+use Rattle.std.specs.Prelude.{◌≡◌, ℕ, suc, Bool, true, false, cond, not, ◌&&◌, List, [], ◌∷◌, ◌++◌, length, Some, None, codes, Option}
 use Rattle.style.specs.declared.indentation.Indentation.{Indentation}
 use Rattle.style.specs.declared.result.WriteResult.{WriteResult}
 use Rattle.style.specs.declared.result.WriteResult.TheVariants.{Element, Nothing, SensitiveText, SensitiveNothing}
@@ -7,10 +7,12 @@ use Rattle.style.specs.declared.style.EmptyElementHandling.{EmptyElementHandling
 use Rattle.style.specs.Results.{allows_indent}
 use Rattle.reader.specs.Trees.{Bytes}
 use Rattle.model.specs.Calls.{Value, val_text, val_none, val_variant, val_wrapped, val_row, val_variant_row, val_record, val_variant_record, Call, call_open, call_field, call_value, call_end, call_finish, call_abandon, is_text_name}
-use Rattle.model.specs.Marks.{Mark, tag_byte, tagged, texted, less_than, flatten, shut, empty_element, text_element}
+use Rattle.model.specs.Marks.{Mark, tag_byte, text_byte, lead, tagged, texted, less_than, flatten, shut, empty_element, text_element}
 use Rattle.model.specs.Model.{Level, Row, named_row, content_row, Outer, Spot, element, content, text_spot, simple, words, Quote, State, idle, between, inside, quote, complete, flag, start}
 use Rattle.model.specs.Step.{step, no_kids}
 use Rattle.model.specs.Layout.{stage, pending, records, wordy}
+use Rattle.model.specs.Table.{Setting}
+use Rattle.model.specs.Run.{new, run}
 
 -- the open tag of a record
 abbrev pub open_marks : Level → List Outer → List Mark
@@ -32,6 +34,13 @@ written (between l ls) = sheet l ls []
 written (inside s rs l ls) = sheet l ls []
 written (quote q l ls) = sheet l ls (pending q)
 written (complete ms) = ms
+
+-- whether a text's byte stands last in marks, or where there are none, t
+abbrev pub text_last : Bool → List Mark → Bool
+text_last t [] = t
+text_last t (tag_byte b ∷ ms) = text_last false ms
+text_last t (text_byte b ∷ ms) = text_last true ms
+text_last t (lead d ∷ ms) = text_last false ms
 
 -- the flag of the innermost open record or row
 abbrev pub flag_of : State → Bool
@@ -183,6 +192,10 @@ pub record DueIndents (f : EmptyElementHandling) : Type 0 where
   pub flags : (c : Call) (st next : State) → step f c st ≡ Some next → FlagsFollow c st next
   pub empty_row : (p : Bool) (rs : List Row) (l : Level) (ls : List Outer) (next : State) → step f (call_value val_row) (inside (content p) rs l ls) ≡ Some next → result call_end next ≡ Some SensitiveNothing
 
--- Which tags have an indent: those before which one is due, by a flag that follows from the calls
+-- in a run `wordy` says whether a text's byte stands last in what is written
+abbrev pub WordyAfterTexts : Type 0
+WordyAfterTexts = (w : Setting) (cs : List Call) (r : ℕ) → wordy (run w cs (new r)).model ≡ text_last false (written (run w cs (new r)).model)
+
+-- Which tags have an indent: those before which one is due, by a flag that follows from the calls, and by the marks
 abbrev pub IndentsWhereDue : Type 0
-IndentsWhereDue = (f : EmptyElementHandling) → DueIndents f
+IndentsWhereDue = ((f : EmptyElementHandling) → DueIndents f) × WordyAfterTexts
