@@ -1,5 +1,5 @@
 -- Every call that the table lets through puts tags at the depth of the records that are open around them.
-use Rattle.std.proofs.Common.{◌≡◌, ℕ, suc, Bool, true, false, cond, not, ◌&&◌, List, [], ◌∷◌, ◌++◌, length, Some, None, codes, IsUtf8, Option, sym, refl, ap, ◌∙◌, subst, append_assoc}
+use Rattle.std.proofs.Common.{◌≡◌, ℕ, suc, Bool, true, false, cond, List, [], ◌∷◌, ◌++◌, length, Some, None, codes, IsUtf8, Option, sym, refl, ap, ◌∙◌, subst, append_assoc}
 use Rattle.std.proofs.lemmas.List.{append-nil, map-append}
 use Rattle.std.proofs.lemmas.Bool.{not-false}
 use Rattle.refusal.specs.declared.Refusal.{Refusal}
@@ -84,7 +84,7 @@ shut_at Expanded {d} {m} {n} {a} h k x = subst (λ (z : List Mark). ElementAt d 
 record_at : (f : EmptyElementHandling) {d : ℕ} {m : Mark} (l : Level) {at : Attributes} → LessAt d m → Name l.name → Attribs l.attrs at → ContentAt (suc d) l.body.kids → (t : Bool) →
     ElementAt d (m ∷ cond t (tagged (l.name ++ (l.attrs ++ shut f l.name))) (tagged (l.name ++ (l.attrs ++ codes ">")) ++ (l.body.kids ++ end_tag d l)))
 record_at f l h k x c true = shut_at f h k x
-record_at f {d} l h k x c false = tags h k x c (less_at (l.body.flag && not l.body.wordy) d)
+record_at f {d} l h k x c false = tags h k x c (less_at _ d)
 
 -- a test in a definition, where both ways are deep
 either : (d : ℕ) (t : Bool) (m n : Move) → DeepMove d m → DeepMove d n → DeepMove d (cond t m n)
@@ -93,10 +93,10 @@ either d false m n p q = q
 
 module _ (f : EmptyElementHandling) (d : ℕ) (rs : List Row) (b : Body) (c : ContentAt d b.kids) where
   deep_empty : {n : Bytes} → Name n → DeepMove d (empty_child f d rs b n)
-  deep_empty h = content_join c (content_one (shut_at f (less_at (flag rs b && not b.wordy) d) h attribs_end))
+  deep_empty h = content_join c (content_one (shut_at f (less_at _ d) h attribs_end))
 
   deep_around : {n : Bytes} (s : Bytes) → Name n → DeepMove d (text_child f d rs b n s)
-  deep_around s h = content_join c (content_one (tags (less_at (flag rs b && not b.wordy) d) h attribs_end (content_texted s) plain))
+  deep_around s h = content_join c (content_one (tags (less_at _ d) h attribs_end (content_texted s) plain))
 
   deep_text : (s : Bytes) → ContentAt d (b.kids ++ texted s)
   deep_text s = content_join c (content_texted s)
@@ -191,7 +191,7 @@ deep_close : (f : EmptyElementHandling) (l : Level) {at : Attributes} (ls : List
 deep_close f l [] h a c os = record_at f l plain h a c (no_kids l.body.kids)
 deep_close f l (o ∷ ls) h a c os =
     let d = suc (length ls) in
-    let e = record_at f {d = d} l (less_at (flag o.rows o.level.body && not o.level.body.wordy) d) h a c (no_kids l.body.kids) in
+    let e = record_at f {d = d} l (less_at _ d) h a c (no_kids l.body.kids) in
     deep_settle element_result o.rows _ ls (content_join os.0 (content_one e)) os.1
 
 deep_leave : (s : Spot) (rs : List Row) (l : Level) (ls : List Outer) → ContentAt (suc (length ls)) l.body.kids → Depths ls → Whenever Deep (leave s rs l ls)

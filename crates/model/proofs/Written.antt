@@ -1,11 +1,11 @@
 -- What is written: the stage is its layout, and where a text's byte stands last in it.
-use Rattle.std.proofs.Common.{◌≡◌, ℕ, suc, Bool, true, false, cond, not, ◌&&◌, ◌||◌, List, [], ◌∷◌, ◌++◌, length, codes, Option, sym, refl, ap, ◌∙◌, append_assoc}
+use Rattle.std.proofs.Common.{◌≡◌, ℕ, Bool, true, false, cond, not, ◌||◌, List, [], ◌∷◌, ◌++◌, length, codes, Option, sym, refl, ap, ◌∙◌, append_assoc}
 use Rattle.style.specs.declared.indentation.Indentation.{Indentation}
 use Rattle.style.specs.declared.style.EmptyElementHandling.{EmptyElementHandling}
 use Rattle.reader.specs.Trees.{Bytes}
 use Rattle.model.specs.Strings.{null}
 use Rattle.model.specs.Marks.{Mark, tag_byte, text_byte, lead, tagged, texted, less_than, flatten, bytes_of_mark, shut, empty_element, text_element}
-use Rattle.model.specs.Model.{Body, Level, Row, Outer, State, idle, between, inside, quote, complete, flag, start, child_start}
+use Rattle.model.specs.Model.{Body, Level, Row, Outer, State, idle, between, inside, quote, complete, start, child_start}
 use Rattle.model.specs.Step.{end_tag, no_kids, closed_record}
 use Rattle.model.specs.Layout.{stage, open_tag, below, tag_end, pending}
 use Rattle.model.specs.Flags.{open_marks, around, sheet, written, text_last}
@@ -63,16 +63,16 @@ last_less false t d ms = refl
 
 last_start : (ls : List Outer) (t : Bool) (ms : List Mark) → text_last t (start ls ∷ ms) ≡ text_last false ms
 last_start [] t ms = refl
-last_start (o ∷ os) t ms = last_less (flag o.rows o.level.body && not o.level.body.wordy) t (suc (length os)) ms
+last_start (o ∷ os) t ms = last_less _ t _ ms
 
 pub last_empty : (f : EmptyElementHandling) (rs : List Row) (b : Body) (d : ℕ) (n : Bytes) (t : Bool) → text_last t (child_start rs b d ∷ empty_element f n) ≡ false
-last_empty f rs b d n t = last_less (flag rs b && not b.wordy) t d (empty_element f n) ∙ last_tagged (n ++ shut f n)
+last_empty f rs b d n t = last_less _ t d (empty_element f n) ∙ last_tagged (n ++ shut f n)
 
 pub last_around : (rs : List Row) (b : Body) (d : ℕ) (n s : Bytes) (t : Bool) → text_last t (child_start rs b d ∷ text_element n s) ≡ false
 last_around rs b d n s t =
     let e = codes "/" ++ (n ++ codes ">") in
     let x = texted s ++ (tag_byte 60 ∷ tagged e) in
-    last_less (flag rs b && not b.wordy) t d (text_element n s) ∙ (last-++ false (tagged (n ++ codes ">")) x ∙ (last-++ (text_last false (tagged (n ++ codes ">"))) (texted s) (tag_byte 60 ∷ tagged e) ∙ last_tagged e))
+    last_less _ t d (text_element n s) ∙ (last-++ false (tagged (n ++ codes ">")) x ∙ (last-++ (text_last false (tagged (n ++ codes ">"))) (texted s) (tag_byte 60 ∷ tagged e) ∙ last_tagged e))
 
 -- open tags and what stands of an attribute are no text
 pub last_sheet : (l : Level) (ls : List Outer) (a : Bytes) → text_last false (sheet l ls a) ≡ text_last false l.body.kids
@@ -90,4 +90,4 @@ last_closed f l ls t = last_start ls t _ ∙ go (no_kids l.body.kids)
     go false =
         let e = codes "/" ++ (l.name ++ codes ">") in
         let o = tagged (l.name ++ (l.attrs ++ codes ">")) in
-        last-++ false o (l.body.kids ++ end_tag (length ls) l) ∙ (last-++ (text_last false o) l.body.kids (end_tag (length ls) l) ∙ (last_less (l.body.flag && not l.body.wordy) _ (length ls) (tagged e) ∙ last_tagged e))
+        last-++ false o (l.body.kids ++ end_tag (length ls) l) ∙ (last-++ (text_last false o) l.body.kids (end_tag (length ls) l) ∙ (last_less _ _ (length ls) (tagged e) ∙ last_tagged e))
