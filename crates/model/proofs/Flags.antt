@@ -15,7 +15,7 @@ use Rattle.model.specs.Marks.{Mark, tag_byte, tagged, texted, shut, empty_elemen
 use Rattle.model.specs.Model.{Body, Level, Row, named_row, content_row, Outer, Spot, element, content, text_spot, simple, words, Quote, single, several, State, idle, between, inside, quote, complete, stack, flag, start, child_start}
 use Rattle.model.specs.Step.{Move, done, on, opens_row, opens_record, Quoted, closed, still, gap, item, empty_child, text_child, put_element, put_content, put_text, put_simple, put_word, put, put_quote, attribute, new_level, settle, moved_if, row_state, requoted_if, close, closed_record, leave, leave_quote, field, step, with_body, with_flag, with_attribute, with_text, no_kids, end_tag}
 use Rattle.model.specs.Layout.{pending, records, wordy}
-use Rattle.model.specs.Flags.{open_marks, around, sheet, written, flag_of, Piece, a_text, a_start_tag, an_empty_tag, an_element, Writes, root_tag, child_behind, record_ends, empty_record_ends, row_ends, field_begins, attribute_grows, attribute_ends, finishes, abandons, element_result, content_result, text_result, value_result, result, Notes, in_record, in_content_row, in_named_row, FlagsFollow, IndentsWhereDue, DueIndents, text_last}
+use Rattle.model.specs.Flags.{open_marks, around, sheet, written, flag_of, Piece, a_text, a_start_tag, an_empty_tag, an_element, Writes, root_tag, child_behind, record_ends, empty_record_ends, row_ends, field_begins, attribute_grows, attribute_ends, finishes, abandons, at_once, content_result, value_result, result, Notes, in_record, in_content_row, in_named_row, FlagsFollow, IndentsWhereDue, DueIndents, text_last}
 use Rattle.model.specs.Table.{Setting, or_stay, next, table, first, judged, handed}
 use Rattle.model.specs.Run.{Session, new, run, after, moved_on}
 use Rattle.model.proofs.Moves.{Whenever}
@@ -59,7 +59,7 @@ module _ (f : EmptyElementHandling) (d : ℕ) (rs : List Row) (b : Body) where
   fits_around : (n s : Bytes) → Fits less rs b (Some Element) (text_child f d rs b n s)
   fits_around n s = (refl, record { more = less ∷ text_element n s; is = refl; piece = an_element n s; last = sym (last_around rs b d n s b.wordy) })
 
-  fits_element : (u n : Bytes) (v : Value) → Suits (element_result v) (put_element f d rs b u n v)
+  fits_element : (u n : Bytes) (v : Value) → Suits (at_once Element v) (put_element f d rs b u n v)
   fits_element u n (val_text r s) = fits_either less rs b (Some Element) (null s) _ _ (fits_empty n) (fits_around n (escaped (r.chooses text_use) s))
   fits_element u n val_none = fits_empty n
   fits_element u n (val_variant r v) = fits_either less rs b (Some Element) (is_text_name v) _ _ (fits_empty n) (fits_around n (escaped (r.chooses text_use) v))
@@ -83,7 +83,7 @@ module _ (f : EmptyElementHandling) (d : ℕ) (rs : List Row) (b : Body) where
   fits_content t (val_record n) = refl
   fits_content t (val_variant_record v) = refl
 
-  fits_text : (v : Value) → Suits (text_result v) (put_text b v)
+  fits_text : (v : Value) → Suits (at_once SensitiveText v) (put_text b v)
   fits_text (val_text r s) = (refl, texts less rs b (escaped (r.chooses text_use) s))
   fits_text val_none = (refl, unchanged less rs b)
   fits_text (val_variant r v) = (refl, texts less rs b (cond (is_text_name v) [] (escaped (r.chooses text_use) v)))
@@ -93,7 +93,7 @@ module _ (f : EmptyElementHandling) (d : ℕ) (rs : List Row) (b : Body) where
   fits_text (val_record n) = tt
   fits_text (val_variant_record v) = tt
 
-  fits_simple : (v : Value) → Suits (text_result v) (put_simple b v)
+  fits_simple : (v : Value) → Suits (at_once SensitiveText v) (put_simple b v)
   fits_simple (val_text r s) = (refl, texts less rs b (escaped (r.chooses text_use) s))
   fits_simple val_none = (refl, unchanged less rs b)
   fits_simple (val_variant r v) = (refl, texts less rs b (escaped (r.chooses text_use) v))

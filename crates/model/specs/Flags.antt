@@ -84,16 +84,17 @@ pub data Writes (f : EmptyElementHandling) : Call → State → List Mark → Ty
   finishes : {ms : List Mark} → Writes f call_finish (complete ms) []
   abandons : {st : State} → Writes f call_abandon st []
 
--- the result of a child that a value completes at an element place
-abbrev pub element_result : Value → Option WriteResult
-element_result (val_text r s) = Some Element
-element_result val_none = Some Element
-element_result (val_variant r v) = Some Element
-element_result (val_wrapped v) = None
-element_result val_row = None
-element_result (val_variant_row v) = None
-element_result (val_record n) = None
-element_result (val_variant_record v) = None
+-- the result of a child that a value completes, where that is always this one: text, none and variants complete one, and all others
+-- want further calls
+abbrev pub at_once : WriteResult → Value → Option WriteResult
+at_once q (val_text r s) = Some q
+at_once q val_none = Some q
+at_once q (val_variant r v) = Some q
+at_once q (val_wrapped v) = None
+at_once q val_row = None
+at_once q (val_variant_row v) = None
+at_once q (val_record n) = None
+at_once q (val_variant_record v) = None
 
 -- at a content place
 abbrev pub content_result : Value → Option WriteResult
@@ -106,23 +107,12 @@ content_result (val_variant_row v) = None
 content_result (val_record n) = None
 content_result (val_variant_record v) = None
 
--- at a text or simple place
-abbrev pub text_result : Value → Option WriteResult
-text_result (val_text r s) = Some SensitiveText
-text_result val_none = Some SensitiveText
-text_result (val_variant r v) = Some SensitiveText
-text_result (val_wrapped v) = None
-text_result val_row = None
-text_result (val_variant_row v) = None
-text_result (val_record n) = None
-text_result (val_variant_record v) = None
-
--- an item of a list completes none
+-- an element, a child of its own kind, a text, or an item of a list, which completes none
 abbrev pub value_result : Spot → Value → Option WriteResult
-value_result (element u n) v = element_result v
+value_result (element u n) v = at_once Element v
 value_result (content p) v = content_result v
-value_result text_spot v = text_result v
-value_result simple v = text_result v
+value_result text_spot v = at_once SensitiveText v
+value_result simple v = at_once SensitiveText v
 value_result (words w) v = None
 
 -- the end of a content row gives the last item's result
