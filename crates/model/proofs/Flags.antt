@@ -1,9 +1,10 @@
 -- Each accepted call writes an indent exactly where one is due, and leaves the flag that its child's result asks for.
-use Rattle.std.proofs.Common.{◌≡◌, ℕ, suc, ◌≤◌, Bool, true, false, cond, List, [], ◌∷◌, ◌++◌, length, Some, None, codes, Option, sym, refl, ap, ◌∙◌, subst, append_assoc, arith}
+use Rattle.std.proofs.Common.{◌≡◌, ℕ, suc, ◌≤◌, Bool, true, false, cond, not, ◌&&◌, ◌⊎◌, inl, inr, List, [], ◌∷◌, ◌++◌, length, Some, None, codes, Option, sym, refl, ap, ◌∙◌, subst, append_assoc, arith}
+use Rattle.std.proofs.lemmas.Bool.{false≢true}
 use Rattle.std.proofs.lemmas.List.{append-nil, map-append}
 use Rattle.refusal.specs.declared.Refusal.{Refusal}
 use Rattle.style.specs.declared.result.WriteResult.{WriteResult}
-use Rattle.style.specs.declared.result.WriteResult.TheVariants.{Element, Nothing, SensitiveText, SensitiveNothing}
+use Rattle.style.specs.declared.result.WriteResult.TheVariants.{Text, Element, Nothing, SensitiveText, SensitiveNothing}
 use Rattle.style.specs.declared.style.EmptyElementHandling.{EmptyElementHandling}
 use Rattle.style.specs.Results.{allows_indent}
 use Rattle.xml.specs.declared.escape.Use.TheVariants.{Text as text_use, TextItem as text_item_use}
@@ -11,11 +12,11 @@ use Rattle.xml.specs.Escaping.{escaped}
 use Rattle.reader.specs.Trees.{Bytes}
 use Rattle.model.specs.Strings.{null}
 use Rattle.model.specs.Calls.{Value, val_text, val_none, val_variant, val_wrapped, val_row, val_variant_row, val_record, val_variant_record, Call, call_open, call_field, call_value, call_end, call_finish, call_abandon, Key, key_attribute, key_text, key_value, key_element, key, is_text_name}
-use Rattle.model.specs.Marks.{Mark, tag_byte, tagged, texted, shut, empty_element, text_element}
+use Rattle.model.specs.Marks.{Mark, tag_byte, tagged, texted, less_than, shut, empty_element, text_element}
 use Rattle.model.specs.Model.{Body, Level, Row, named_row, content_row, Outer, Spot, element, content, text_spot, simple, words, Quote, single, several, State, idle, between, inside, quote, complete, stack, flag, start, child_start}
 use Rattle.model.specs.Step.{Move, done, on, opens_row, opens_record, Quoted, closed, still, gap, item, empty_child, text_child, put_element, put_content, put_text, put_simple, put_word, put, put_quote, attribute, new_level, settle, moved_if, row_state, requoted_if, close, closed_record, leave, leave_quote, field, step, with_body, with_flag, with_attribute, with_text, no_kids, end_tag}
 use Rattle.model.specs.Layout.{pending, records, wordy}
-use Rattle.model.specs.Flags.{open_marks, around, sheet, written, flag_of, Piece, a_text, a_start_tag, an_empty_tag, an_element, Writes, root_tag, child_behind, record_ends, empty_record_ends, row_ends, field_begins, attribute_grows, attribute_ends, finishes, abandons, at_once, content_result, value_result, result, Notes, in_record, in_content_row, in_named_row, FlagsFollow, IndentsWhereDue, DueIndents, text_last}
+use Rattle.model.specs.Flags.{innermost_flag, due, WordsOfIndents, open_marks, around, sheet, written, flag_of, Piece, a_text, a_start_tag, an_empty_tag, an_element, Writes, root_tag, child_behind, record_ends, empty_record_ends, row_ends, field_begins, attribute_grows, attribute_ends, finishes, abandons, at_once, content_result, value_result, result, Notes, in_record, in_content_row, in_named_row, FlagsFollow, IndentsWhereDue, DueIndents, text_last}
 use Rattle.model.specs.Table.{Setting, or_stay, next, table, first, judged, handed}
 use Rattle.model.specs.Run.{Session, new, run, after, moved_on}
 use Rattle.model.proofs.Moves.{Whenever}
@@ -123,6 +124,11 @@ module _ (f : EmptyElementHandling) (d : ℕ) (rs : List Row) (b : Body) where
   fits_put t simple v = fits_simple v
   fits_put t (words w) v = fits_word w v
 
+flag_is : (rs : List Row) (b : Body) → flag rs b ≡ innermost_flag rs b.flag
+flag_is [] b = refl
+flag_is (named_row u n g ∷ rs) b = refl
+flag_is (content_row t r g ∷ rs) b = refl
+
 -- a complete child's result is noted, and no record opens
 notes : (r : WriteResult) (rs : List Row) (l : Level) (ls : List Outer) → Notes r (settle r rs l ls)
 notes r [] l ls = in_record refl
@@ -195,33 +201,32 @@ module _ (f : EmptyElementHandling) where
     abbrev mark : Mark
     mark = child_start rs l.body (suc (length ls))
 
+    -- its indent is due by the same flag
+    mark_due : mark ≡ less_than (due at) (suc (length ls))
+    mark_due = ap (λ g. less_than (g && not l.body.wordy) (suc (length ls))) (flag_is rs l.body)
+
     grown_writes : (n : Body) → Grown mark l.body n → Writes f (call_value v) at (sheet (with_body l n) ls [])
     grown_writes n g =
-        subst (λ (z : List Mark). Writes f (call_value v) at z) (behind_all (around ls) (open_marks l ls) l.body.kids g.more ∙ ap (λ y. around ls ++ (open_marks l ls ++ y)) (sym g.is)) (child_behind g.piece)
+        subst (λ (z : List Mark). Writes f (call_value v) at z) (behind_all (around ls) (open_marks l ls) l.body.kids g.more ∙ ap (λ y. around ls ++ (open_marks l ls ++ y)) (sym g.is)) (child_behind (subst (λ (x : Mark). Piece x g.more) mark_due g.piece))
 
     same_writes : Writes f (call_value v) at (sheet l ls [])
     same_writes = subst (λ (z : List Mark). Writes f (call_value v) at z) (append-nil (sheet l ls [])) (child_behind (a_text []))
 
     start_writes : (u n : Bytes) → Writes f (call_value v) at (written (between (new_level u n) (record { level = l; rows = rs } ∷ ls)))
     start_writes u n =
-        let p : mark ∷ tagged n ≡ (mark ∷ tagged (n ++ [])) ++ [] = ap (λ y. mark ∷ tagged y) (sym (append-nil n)) ∙ sym (append-nil (mark ∷ tagged (n ++ []))) in
+        let p : less_than (due at) (suc (length ls)) ∷ tagged n ≡ (mark ∷ tagged (n ++ [])) ++ [] = ap (λ x. x ∷ tagged n) (sym mark_due) ∙ (ap (λ y. mark ∷ tagged y) (sym (append-nil n)) ∙ sym (append-nil (mark ∷ tagged (n ++ [])))) in
         subst (λ (z : List Mark). Writes f (call_value v) at (sheet l ls [] ++ z)) p (child_behind (a_start_tag n))
 
-    same_flag : (rs : List Row) (n : Body) → n.flag ≡ l.body.flag → flag rs n ≡ flag rs l.body
-    same_flag [] n e = e
-    same_flag (named_row t m g ∷ rs) n e = refl
-    same_flag (content_row t r g ∷ rs) n e = refl
-
     row_follows : (r : Row) → value_result s v ≡ None → flag (r ∷ rs) l.body ≡ flag rs l.body → Follows (call_value v) at (row_state r rs l ls)
-    row_follows (named_row u n g) e k = record { writes = same_writes; flags = flags_kept (call_value v) at _ e refl k; last = λ h. h }
-    row_follows (content_row t r g) e k = record { writes = same_writes; flags = flags_kept (call_value v) at _ e refl k; last = λ h. h }
+    row_follows (named_row u n g) e k = record { writes = same_writes; flags = flags_kept (call_value v) at _ e refl (k ∙ flag_is rs l.body); last = λ h. h }
+    row_follows (content_row t r g) e k = record { writes = same_writes; flags = flags_kept (call_value v) at _ e refl (k ∙ flag_is rs l.body); last = λ h. h }
 
     value_follows : (m : Option Move) → Whenever (Fits mark rs l.body (value_result s v)) m → Whenever (Follows (call_value v) at) (moved_if rs l ls m)
     value_follows None h = tt
     value_follows (Some (done r n)) h =
         record { writes = subst (λ (z : List Mark). Writes f (call_value v) at z) (sym (settle_written r rs (with_body l n) ls)) (grown_writes n h.1); flags = flags_noted (call_value v) at r rs (with_body l n) ls h.0 (omega arith); last = λ e. worded_settle r rs (with_body l n) ls (worded_grown l n h.1 (by_children l ls [] e)) }
     value_follows (Some (on x n)) h =
-        record { writes = grown_writes n h.2; flags = flags_kept (call_value v) at (inside x rs (with_body l n) ls) h.0 refl (same_flag rs n h.1); last = λ e. worded (with_body l n) ls [] (worded_grown l n h.2 (by_children l ls [] e)) }
+        record { writes = grown_writes n h.2; flags = flags_kept (call_value v) at (inside x rs (with_body l n) ls) h.0 refl (ap (innermost_flag rs) h.1); last = λ e. worded (with_body l n) ls [] (worded_grown l n h.2 (by_children l ls [] e)) }
     value_follows (Some (opens_row r)) h = row_follows r h.0 h.1
     value_follows (Some (opens_record u n)) h = record { writes = start_writes u n; flags = flags_opened (call_value v) at _ h refl refl; last = λ e. worded (new_level u n) (record { level = l; rows = rs } ∷ ls) [] refl }
 
@@ -352,5 +357,20 @@ module _ (w : Setting) where
   worded_run [] s e = e
   worded_run (c ∷ cs) s e = worded_run cs (after w c s) (worded_judged c s e (first (table w s.room c s.model)))
 
+-- an indent may follow just these
+followed : (r : WriteResult) → (r ≡ Element) ⊎ (r ≡ Nothing) → allows_indent r ≡ true
+followed r (inl e) = ap allows_indent e
+followed r (inr e) = ap allows_indent e
+
+words_of_indents : WordsOfIndents
+words_of_indents = record { with_indent = λ d. refl; without = λ d. refl; followed = λ r. (of_result r, followed r) }
+  where
+    of_result : (r : WriteResult) → allows_indent r ≡ true → (r ≡ Element) ⊎ (r ≡ Nothing)
+    of_result Text e = absurd (false≢true e)
+    of_result Element e = inl refl
+    of_result Nothing e = inr refl
+    of_result SensitiveText e = absurd (false≢true e)
+    of_result SensitiveNothing e = absurd (false≢true e)
+
 pub indents_where_due : IndentsWhereDue
-indents_where_due = (due_indents, λ w cs r. worded_run w cs (new r) refl)
+indents_where_due = (due_indents, λ w cs r. worded_run w cs (new r) refl, words_of_indents)

@@ -1,5 +1,5 @@
 -- Which tags have an indent, and what each call does to the flags that say so. Assumes nothing.
-use Rattle.std.specs.Prelude.{◌≡◌, ℕ, suc, Bool, true, false, cond, not, ◌&&◌, List, [], ◌∷◌, ◌++◌, length, Some, None, codes, Option}
+use Rattle.std.specs.Prelude.{◌≡◌, ℕ, suc, Bool, true, false, cond, not, ◌&&◌, ◌⊎◌, List, [], ◌∷◌, ◌++◌, length, Some, None, codes, Decides, Option}
 use Rattle.style.specs.declared.indentation.Indentation.{Indentation}
 use Rattle.style.specs.declared.result.WriteResult.{WriteResult}
 use Rattle.style.specs.declared.result.WriteResult.TheVariants.{Element, Nothing, SensitiveText, SensitiveNothing}
@@ -8,7 +8,7 @@ use Rattle.style.specs.Results.{allows_indent}
 use Rattle.reader.specs.Trees.{Bytes}
 use Rattle.model.specs.Calls.{Value, val_text, val_none, val_variant, val_wrapped, val_row, val_variant_row, val_record, val_variant_record, Call, call_open, call_field, call_value, call_end, call_finish, call_abandon, is_text_name}
 use Rattle.model.specs.Marks.{Mark, tag_byte, text_byte, lead, tagged, texted, less_than, flatten, shut, empty_element, text_element}
-use Rattle.model.specs.Model.{Level, Row, named_row, content_row, Outer, Spot, element, content, text_spot, simple, words, Quote, State, idle, between, inside, quote, complete, flag, start}
+use Rattle.model.specs.Model.{Level, Row, named_row, content_row, Outer, Spot, element, content, text_spot, simple, words, Quote, State, idle, between, inside, quote, complete, start}
 use Rattle.model.specs.Step.{step, no_kids}
 use Rattle.model.specs.Layout.{stage, pending, records, wordy}
 use Rattle.model.specs.Table.{Setting}
@@ -42,11 +42,17 @@ text_last t (tag_byte b ∷ ms) = text_last false ms
 text_last t (text_byte b ∷ ms) = text_last true ms
 text_last t (lead d ∷ ms) = text_last false ms
 
+-- the flag of the innermost row, or where no row is open that of the record
+abbrev pub innermost_flag : List Row → Bool → Bool
+innermost_flag [] g = g
+innermost_flag (named_row u n g ∷ rs) h = g
+innermost_flag (content_row t r g ∷ rs) h = g
+
 -- the flag of the innermost open record or row
 abbrev pub flag_of : State → Bool
 flag_of idle = false
 flag_of (between l ls) = l.body.flag
-flag_of (inside s rs l ls) = flag rs l.body
+flag_of (inside s rs l ls) = innermost_flag rs l.body.flag
 flag_of (quote q l ls) = l.body.flag
 flag_of (complete ms) = false
 
@@ -174,6 +180,12 @@ pub record FlagsFollow (c : Call) (st next : State) : Type 0 where
   -- nothing else changes it: not a field or an attribute, and a row that has just opened has its place's flag
   pub kept : records next ≡ records st → result c st ≡ None → flag_of next ≡ flag_of st
 
+-- the words that these sentences use: an indent is a mark, and it may follow just two results
+pub record WordsOfIndents : Type 0 where
+  pub with_indent : (d : ℕ) → less_than true d ≡ lead d
+  pub without : (d : ℕ) → less_than false d ≡ tag_byte 60
+  pub followed : (r : WriteResult) → Decides (allows_indent r) ((r ≡ Element) ⊎ (r ≡ Nothing))
+
 -- what is written is what the stage holds, laid out; each accepted call, at any state, writes an indent exactly where one is due, and
 -- the flags follow from the calls. A content row that ends at once has the result SensitiveNothing
 pub record DueIndents (f : EmptyElementHandling) : Type 0 where
@@ -188,4 +200,4 @@ WordyAfterTexts = (w : Setting) (cs : List Call) (r : ℕ) → wordy (run w cs (
 
 -- Which tags have an indent: those before which one is due, by a flag that follows from the calls, and by the marks
 abbrev pub IndentsWhereDue : Type 0
-IndentsWhereDue = ((f : EmptyElementHandling) → DueIndents f) × WordyAfterTexts
+IndentsWhereDue = ((f : EmptyElementHandling) → DueIndents f) × WordyAfterTexts × WordsOfIndents
