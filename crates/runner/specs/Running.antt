@@ -1,5 +1,5 @@
 -- What becomes of a batch: its style is refused, or its calls are made, all in one run, on a new writer and a new sink. Assumes nothing.
-use Rattle.std.specs.Prelude.{◌≡◌, ◌⊎◌, ℕ, false, List, [], take, replicate, vec_items, Option, Ok, Err, Result}
+use Rattle.std.specs.Prelude.{◌≡◌, ℕ, false, List, [], take, replicate, vec_items, Option, Ok, Err, Result}
 use Rattle.refusal.specs.declared.Refusal.{Refusal}
 use Rattle.refusal.specs.Refusals.{Refuses}
 use Rattle.style.specs.declared.style.EmptyElementHandling.{EmptyElementHandling}
@@ -18,8 +18,11 @@ use Rattle.writer.specs.Starting.{starting}
 use Rattle.writer.specs.Served.{all_answered}
 use Rattle.writer.specs.Replayed.{Replayed}
 use Rattle.feed.specs.declared.batch.Batch.{Batch}
+use Rattle.feed.specs.declared.setup.Setup.{Setup}
 use Rattle.feed.specs.Making.{calls_made}
 use Rattle.runner.specs.declared.running.Ran.{Ran as Record}
+use Rattle.runner.specs.declared.want.Want.{Want}
+use Rattle.runner.specs.declared.want.Want.TheVariants.{Writer, Sink}
 
 -- a new writer over memory of these sizes
 abbrev pub new_writer : EmptyElementHandling → Option Indentation → Sizes → Mem
@@ -42,6 +45,14 @@ abbrev pub Becomes : Batch → Result Record Refusal → Type 0
 Becomes b (Err e) = (allowed b.setup.style.value.indentation ≡ false) × Refuses 10 0 e
 Becomes b (Ok r) = IsRunOf b b.setup.sink.value r
 
--- there is no memory, told at the line that asks for it: that of the writer's memories, or that of the sink
+-- the line that sets what is wanted: that of the writer's memories, or that of the sink
+abbrev pub line_of : Want → Setup → ℕ
+line_of Writer s = s.memory.line
+line_of Sink s = s.sink.line
+
+-- there is no memory for it, told at its line
+abbrev pub IsTold : Want → Setup → ScriptError → Type 0
+IsTold w s e = (e.fault ≡ Memory) × (e.line ≡ line_of w s)
+
 abbrev pub WantsMemory : Batch → ScriptError → Type 0
-WantsMemory b e = (e.fault ≡ Memory) × ((e.line ≡ b.setup.memory.line) ⊎ (e.line ≡ b.setup.sink.line))
+WantsMemory b e = (w : Want) × IsTold w b.setup e

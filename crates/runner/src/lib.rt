@@ -5,8 +5,10 @@ mod feeding;
 mod printing;
 mod running;
 mod stop;
+mod want;
 
 pub use feeding::{Feeding, Output};
 pub use printing::{law_told_in_order, print_xml};
 pub use running::{Outcome, Ran, run};
 pub use stop::Stop;
+pub use want::Want;

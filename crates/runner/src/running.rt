@@ -1,5 +1,5 @@
 // Runs the calls of one writer, on memory from the heap that is free again when the run is over.
-ghost use Rattle.std.specs.Prelude.{◌≡◌, ℕ, List, take, IfOk, IfErr};
+ghost use Rattle.std.specs.Prelude.{◌≡◌, ℕ, List, take, length, IfOk, IfErr};
 ghost use Rattle.script.specs.declared.fault.Fault.TheVariants.{Memory};
 ghost use Rattle.script.specs.declared.settings.SinkChoice.TheVariants.{Buffer, Pages};
 ghost use Rattle.xml.specs.Escaping.{level_chooses};
@@ -8,14 +8,16 @@ ghost use Rattle.model.specs.Calls as meant;
 ghost use Rattle.writer.specs.Spelled.{CallsAre};
 ghost use Rattle.writer.specs.Served.{all_answered};
 ghost use Rattle.feed.specs.Making.{calls_made};
+ghost use Rattle.runner.specs.declared.want.Want.TheVariants as wants;
 ghost use Rattle.runner.specs.Running.{Made, IsRunOf, Becomes, WantsMemory};
 
+use crate::want::Want;
 use feed::{Batch, calls_of};
 use model::Frame;
 use refusal::Refusal;
 use script::{Fault, ScriptError, SinkChoice, Sizes};
 use sink::{BufferSink, PageSink, Sink};
-use std::alloc::{AllocError, Global};
+use std::alloc::Global;
 use style::Style;
 use writer::{Answer, Call, Writer};
 use xml::QuoteLevel;
@@ -64,31 +66,42 @@ fn answers_on<S: Sink>(
     style: Style,
     batch: &Batch,
     sink: &mut S,
-) -> Result<Vec<Answer>, ScriptError>
+) -> Result<Vec<Answer>, Want>
     ensures made { IfOk result (λ answers. Made style.empty_elements style.indentation batch.now.setup.memory.value (calls_made batch.now.calls.items) (S.held sink.old) (S.room sink.old) (S.held sink.new) (S.room sink.new) (all_answered answers.items)) }
-    ensures err { IfErr result (λ e. (e.fault ≡ Memory) × (e.line ≡ batch.now.setup.memory.line)) }
+    ensures err { IfErr result (λ want. want ≡ wants.Writer) }
 {
-    let memory = batch.setup.memory;
-    let calls = calls_of(heap, &batch.calls).map_err(|_| Fault::Memory.at_line(memory.line))?;
-    run_on(heap, style, memory.value, sink, &calls).map_err(|fault| fault.at_line(memory.line))
+    let sizes = batch.setup.memory.value;
+    let calls = calls_of(heap, &batch.calls).map_err(|_| Want::Writer)?;
+    run_on(heap, style, sizes, sink, &calls).map_err(|_| Want::Writer)
+}
+
+// Memory for a sink.
+fn buffer_of(heap: Global, size: usize) -> Result<Vec<u8>, Want>
+    ensures size { IfOk result (λ buffer. length buffer.items ≡ size) }
+    ensures err { IfErr result (λ want. want ≡ wants.Sink) }
+{
+    vec![in heap; 0; size].map_err(|_| Want::Sink)
+}
+
+// A copy of the bytes that a sink holds in one slice.
+fn copy_of(heap: Global, held: &[u8]) -> Result<Vec<u8>, Want>
+    ensures value { IfOk result (λ bytes. bytes.items ≡ held.now) }
+    ensures err { IfErr result (λ want. want ≡ wants.Sink) }
+{
+    held.to_vec(heap).map_err(|_| Want::Sink)
 }
 
 // Beside `in_pages`, since the two sinks hand out their bytes in different ways. The style is that of the batch.
-fn in_buffer(heap: Global, style: Style, batch: &Batch, size: usize) -> Result<Ran, ScriptError>
+fn in_buffer(heap: Global, style: Style, batch: &Batch, size: usize) -> Result<Ran, Want>
     requires form { style.empty_elements ≡ batch.now.setup.style.value.empty_elements }
     requires indentation { style.indentation ≡ batch.now.setup.style.value.indentation }
     ensures run { IfOk result (IsRunOf batch.now (Buffer size)) }
-    ensures err { IfErr result (WantsMemory batch.now) }
 {
-    let line = batch.setup.sink.line;
-    let mut memory = vec![in heap; 0; size].map_err(|_| Fault::Memory.at_line(line))?;
+    let mut memory = buffer_of(heap, size)?;
     let mut sink = BufferSink::new(&mut memory);
     let answers = answers_on(heap, style, batch, &mut sink)?;
     let (_, room) = sink.counts();
-    let bytes = sink
-        .held()
-        .to_vec(heap)
-        .map_err(|_| Fault::Memory.at_line(line))?;
+    let bytes = copy_of(heap, sink.held())?;
     Ok(Ran {
         answers,
         bytes,
@@ -97,11 +110,12 @@ fn in_buffer(heap: Global, style: Style, batch: &Batch, size: usize) -> Result<R
 }
 
 // All bytes that a paged sink holds.
-fn bytes_of(heap: Global, sink: &PageSink) -> Result<Vec<u8>, AllocError>
+fn bytes_of(heap: Global, sink: &PageSink) -> Result<Vec<u8>, Want>
     ensures value { IfOk result (λ bytes. bytes.items ≡ take sink.now.len (flat sink.now.pages.pages)) }
+    ensures err { IfErr result (λ want. want ≡ wants.Sink) }
 {
     let (len, _) = sink.counts();
-    let mut bytes = vec![in heap; 0; len]?;
+    let mut bytes = buffer_of(heap, len)?;
     // Byte by byte, since a paged sink has no slice of them all.
     for at in 0..len {
         if let Some(byte) = sink.get(at) {
@@ -111,17 +125,15 @@ fn bytes_of(heap: Global, sink: &PageSink) -> Result<Vec<u8>, AllocError>
     Ok(bytes)
 }
 
-fn in_pages(heap: Global, style: Style, batch: &Batch) -> Result<Ran, ScriptError>
+fn in_pages(heap: Global, style: Style, batch: &Batch) -> Result<Ran, Want>
     requires form { style.empty_elements ≡ batch.now.setup.style.value.empty_elements }
     requires indentation { style.indentation ≡ batch.now.setup.style.value.indentation }
     ensures run { IfOk result (IsRunOf batch.now Pages) }
-    ensures err { IfErr result (WantsMemory batch.now) }
 {
-    let line = batch.setup.sink.line;
     let mut sink = PageSink::new();
     let answers = answers_on(heap, style, batch, &mut sink)?;
     let (_, room) = sink.counts();
-    let bytes = bytes_of(heap, &sink).map_err(|_| Fault::Memory.at_line(line))?;
+    let bytes = bytes_of(heap, &sink)?;
     Ok(Ran {
         answers,
         bytes,
@@ -129,7 +141,19 @@ fn in_pages(heap: Global, style: Style, batch: &Batch) -> Result<Ran, ScriptErro
     })
 }
 
-/// Makes the calls of a batch on a new writer. Only want of memory is an error, told at the line that asks for it.
+// In the sink of the batch.
+fn in_sink(heap: Global, style: Style, batch: &Batch) -> Result<Ran, Want>
+    requires form { style.empty_elements ≡ batch.now.setup.style.value.empty_elements }
+    requires indentation { style.indentation ≡ batch.now.setup.style.value.indentation }
+    ensures run { IfOk result (IsRunOf batch.now batch.now.setup.sink.value) }
+{
+    match batch.setup.sink.value {
+        SinkChoice::Buffer(size) => in_buffer(heap, style, batch, size),
+        SinkChoice::Pages => in_pages(heap, style, batch),
+    }
+}
+
+/// Makes the calls of a batch on a new writer. Only want of memory is an error, told at the line that sets what is wanted.
 pub fn run(heap: Global, batch: &Batch) -> Result<Outcome, ScriptError>
     ensures becomes { IfOk result (Becomes batch.now) }
     ensures err { IfErr result (WantsMemory batch.now) }
@@ -139,8 +163,8 @@ pub fn run(heap: Global, batch: &Batch) -> Result<Outcome, ScriptError>
         Ok(style) => style,
         Err(refusal) => return Ok(Err(refusal)),
     };
-    match batch.setup.sink.value {
-        SinkChoice::Buffer(size) => in_buffer(heap, style, batch, size).map(Ok),
-        SinkChoice::Pages => in_pages(heap, style, batch).map(Ok),
+    match in_sink(heap, style, batch) {
+        Ok(ran) => Ok(Ok(ran)),
+        Err(want) => Err(want.told(&batch.setup)),
     }
 }
