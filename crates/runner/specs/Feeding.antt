@@ -1,6 +1,7 @@
 -- What a script gives: what is written of its writers, one after another, and what stops it. Assumes nothing.
 use Rattle.std.specs.Prelude.{◌≡◌, ◌⊎◌, ℕ, Bool, true, false, List, [], ◌∷◌, ◌++◌, Some, None, Option, Ok, Err, Result}
 use Rattle.std.specs.Io.KnownBytes.{Appends}
+use Rattle.std.specs.declared.io.Error.{Error}
 use Rattle.refusal.specs.declared.Refusal.{Refusal}
 use Rattle.script.specs.declared.fault.Fault.TheVariants.{Memory}
 use Rattle.script.specs.declared.fault.ScriptError.{ScriptError}
@@ -19,7 +20,7 @@ use Rattle.runner.specs.declared.feeding.Feeding.{Feeding}
 use Rattle.runner.specs.declared.stop.Stop.{Stop}
 use Rattle.runner.specs.declared.stop.Stop.TheVariants.{Script, Io}
 use Rattle.runner.specs.Running.{Becomes, WantsMemory}
-use Rattle.runner.specs.Printing.{refusals_told, xml_of, trace_of}
+use Rattle.runner.specs.Printing.{refusals_told, xml_of, trace_of, GivesOrWants}
 
 -- bytes for standard output, and bytes for standard error
 pub record Written : Type 0 where
@@ -162,3 +163,13 @@ EndsOne output (Some b) result old new = Ends output b result old new
 abbrev pub Takes : Output → Batch → Numbered → Batch → Result (Unit {0}) Stop → Held → Held → Type 0
 Takes output b n b' result old new =
     ((done : Option Batch) × Extends done b n b' × EndsOne output done result old new) ⊎ ((role n.line ≡ Calls) × Stays b b' × BreaksOff output b' (record { line = n.number; fault = Memory }) result old new)
+
+-- the error is one that one of the outputs gives, or want of memory
+abbrev pub EitherGives : (Error → Type 0) → (Error → Type 0) → Error → Type 0
+EitherGives out err e = GivesOrWants out e ⊎ err e
+
+-- what could not be written has such an error
+abbrev pub HasGround : (Error → Type 0) → (Error → Type 0) → Result (Unit {0}) Stop → Type 0
+HasGround out err (Ok done) = Unit {0}
+HasGround out err (Err (Script e)) = Unit {0}
+HasGround out err (Err (Io e)) = EitherGives out err e

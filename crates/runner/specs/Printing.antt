@@ -1,5 +1,8 @@
 -- What is printed of a writer, byte for byte. Assumes nothing.
-use Rattle.std.specs.Prelude.{◌≡◌, ℕ, List, [], ◌∷◌, ◌++◌, length, Ok, Err, Result, vec_items}
+use Rattle.std.specs.Prelude.{◌≡◌, ◌⊎◌, ℕ, List, [], ◌∷◌, ◌++◌, length, Ok, Err, Result, vec_items}
+use Rattle.std.specs.IoError.{error_kind}
+use Rattle.std.specs.declared.io.Error.{Error}
+use Rattle.std.specs.declared.io.ErrorKind.TheVariants.{OutOfMemory}
 use Rattle.refusal.specs.declared.Refusal.{Refusal}
 use Rattle.feed.specs.declared.call_line.CallLine.{CallLine}
 use Rattle.feed.specs.declared.batch.Batch.{Batch}
@@ -50,3 +53,7 @@ AnsweredInOrder = (rs ss : List (Result (Unit {0}) Refusal)) (r : Result (Unit {
 abbrev pub trace_of : Result Ran Refusal → List ℕ
 trace_of (Err e) = ended (traced (Err e))
 trace_of (Ok r) = answers_told (vec_items r.answers) ++ (ended (counted (length (vec_items r.bytes)) r.room) ++ ended (bytes_told (vec_items r.bytes)))
+
+-- the error is one that the output gives, or want of memory
+abbrev pub GivesOrWants : (Error → Type 0) → Error → Type 0
+GivesOrWants gives e = gives e ⊎ (error_kind e ≡ OutOfMemory)

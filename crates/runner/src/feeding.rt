@@ -1,14 +1,15 @@
 // Takes a script line by line, runs each writer where the next begins or the script ends, and prints what became of it.
-ghost use Rattle.std.specs.Prelude.{◌≡◌, OnOk};
-ghost use Rattle.runner.specs.Feeding.{holds, Gains, written_of, Ends, BreaksOff, Takes, Feeds};
+ghost use Rattle.std.specs.Prelude.{◌≡◌, OnOk, IfErr};
+ghost use Rattle.runner.specs.Feeding.{holds, Gains, written_of, Ends, BreaksOff, Takes, Feeds, EitherGives, HasGround};
 
+use crate::outlet::Outlet;
 use crate::printing::{print_refusals, print_trace, print_xml};
 use crate::running::{Outcome, run};
 use crate::stop::Stop;
 use feed::Batch;
 use script::{Fault, Numbered, Script, ScriptError};
 use std::alloc::Global;
-use std::io::{self, Write};
+use std::io;
 
 /// What is written of each writer.
 #[derive(Clone, Copy, PartialEq, Eq, Debug)]
@@ -28,7 +29,7 @@ pub struct Feeding<O, E> {
     err: E,
 }
 
-impl<O: Write + Drop, E: Write + Drop> Feeding<O, E> {
+impl<O: Outlet + Drop, E: Outlet + Drop> Feeding<O, E> {
     pub fn new(heap: Global, output: Output, out: O, err: E) -> Feeding<O, E>
         ensures output { result.output ≡ output }
         ensures out { result.out ≡ out }
@@ -54,6 +55,7 @@ impl<O: Write + Drop, E: Write + Drop> Feeding<O, E> {
     fn print(&mut self, batch: &Batch, outcome: &Outcome) -> io::Result<()>
         ensures output { self.new.output ≡ self.old.output }
         ensures gains { OnOk result (Gains (holds O.contents E.contents self.old) (holds O.contents E.contents self.new) (written_of self.old.output batch.now outcome.now)) }
+        ensures io { IfErr result (EitherGives O.gives E.gives) }
     {
         match self.output {
             Output::Plain => {
@@ -68,6 +70,7 @@ impl<O: Write + Drop, E: Write + Drop> Feeding<O, E> {
     fn end(&mut self, batch: &Batch) -> Result<(), Stop>
         ensures output { self.new.output ≡ self.old.output }
         ensures ends { Ends self.old.output batch.now result (holds O.contents E.contents self.old) (holds O.contents E.contents self.new) }
+        ensures io { HasGround O.gives E.gives result }
     {
         if batch.reported {
             let outcome = run(self.heap, batch)?;
@@ -81,6 +84,7 @@ impl<O: Write + Drop, E: Write + Drop> Feeding<O, E> {
     fn break_off(&mut self, batch: &Batch, error: ScriptError) -> Result<(), Stop>
         ensures output { self.new.output ≡ self.old.output }
         ensures breaks { BreaksOff self.old.output batch.now error result (holds O.contents E.contents self.old) (holds O.contents E.contents self.new) }
+        ensures io { HasGround O.gives E.gives result }
     {
         match self.output {
             Output::Plain => {
@@ -96,6 +100,7 @@ impl<O: Write + Drop, E: Write + Drop> Feeding<O, E> {
     fn take(&mut self, batch: &mut Batch, numbered: Numbered) -> Result<(), Stop>
         ensures output { self.new.output ≡ self.old.output }
         ensures takes { Takes self.old.output batch.old numbered batch.new result (holds O.contents E.contents self.old) (holds O.contents E.contents self.new) }
+        ensures io { HasGround O.gives E.gives result }
     {
         let line = numbered.number;
         match batch.take(self.heap, numbered) {
@@ -106,9 +111,11 @@ impl<O: Write + Drop, E: Write + Drop> Feeding<O, E> {
     }
 
     /// Runs a script: what its writers give is written, one after another, up to its end or to the error that it stops at.
+    /// What cannot be written is the fault of an output, or of want of memory for a line of a trace.
     pub fn feed(&mut self, text: &[u8]) -> Result<(), Stop>
         ensures output { self.new.output ≡ self.old.output }
         ensures feeds { Feeds self.old.output text.now result (holds O.contents E.contents self.old) (holds O.contents E.contents self.new) }
+        ensures io { HasGround O.gives E.gives result }
     {
         let mut script = Script::new(text);
         let mut batch = Batch::at_start(self.heap);

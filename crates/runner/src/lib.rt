@@ -2,12 +2,14 @@
 #![tactic(auto)]
 
 mod feeding;
+mod outlet;
 mod printing;
 mod running;
 mod stop;
 mod want;
 
 pub use feeding::{Feeding, Output};
+pub use outlet::Outlet;
 pub use printing::{law_told_in_order, print_xml};
 pub use running::{Outcome, Ran, run};
 pub use stop::Stop;

@@ -5,4 +5,4 @@ use Rattle.runner.proofs.printing.print_answers.Given as goal
 
 -- the answers so far are printed
 abbrev pub invariant-loop-answer : goal.invariant-loop-answer
-invariant-loop-answer g l = Appends (g.O.Write.contents l.initial.out) (g.O.Write.contents l.out) (answers_told (take l.answer-index l.answers))
+invariant-loop-answer g l = Appends (g.O.Outlet.contents l.initial.out) (g.O.Outlet.contents l.out) (answers_told (take l.answer-index l.answers))

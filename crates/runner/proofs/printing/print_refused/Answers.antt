@@ -7,11 +7,11 @@ use Rattle.runner.proofs.Lines.{appends_none, appends_then, refused_next, refuse
 use Rattle.runner.proofs.printing.print_refused.Goals as goal
 
 pub loop-call-init : goal.loop-call-init
-loop-call-init g c = ([], appends_none (g.E.Write.contents c.args.err.now), search rules)
+loop-call-init g c = ([], appends_none (g.E.Outlet.contents c.args.err.now), search rules)
 
 pub loop-call-preserved-in-Continue-1 : goal.loop-call-preserved-in-Continue-1
 loop-call-preserved-in-Continue-1 g c =
-    let held = g.E.Write.contents in
+    let held = g.E.Outlet.contents in
     let l = c.loop-call in
     let rest = l.call-iterator in
     let left = c.next.new.self in
@@ -31,11 +31,11 @@ loop-call-preserved g c =
     let step = c.in-Some.ensures.steps in
     (l.invariant.0, l.invariant.1, refused_passed l.invariant.0 (refused_told c.args.calls.now c.args.answers.now) rest.a.rest.now left.a.rest.now rest.b.rest.now left.b.rest.now c.in-Some.call.now c.in-Some.answer.now c.in_default.field-0 step.0 step.1 c.in_default.is l.invariant.2)
 
-pub returns : goal.returns
-returns g c =
+pub returns-clause-told : goal.returns-clause-told
+returns-clause-told g c =
     let l = c.loop-call in
     let xs = l.call-iterator.a.rest.now in
     let ys = l.call-iterator.b.rest.now in
     let ends : (length xs ≡ 0) ⊎ (length ys ≡ 0) = ⊎_elim (λ p. inl p.1.0) (λ p. inr p.1.0) c.in-None.ensures.steps in
     let all = sym (append-nil l.invariant.0) ∙ ap (λ z. l.invariant.0 ++ z) (sym (refused_done xs ys ends)) ∙ l.invariant.2 in
-    record { told = subst (λ z. Appends (g.E.Write.contents c.args.err.now) (g.E.Write.contents l.err) z) all l.invariant.1 }
+    subst (λ z. Appends (g.E.Outlet.contents c.args.err.now) (g.E.Outlet.contents l.err) z) all l.invariant.1

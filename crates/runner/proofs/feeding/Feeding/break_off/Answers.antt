@@ -10,8 +10,8 @@ returns-in_ok-print_refusals-in-Plain-clause-breaks g c =
     let b = c.args.batch.now in
     let r = c.in_ok-outcome-in-Plain.outcome in
     let w : Written = record { out = []; err = refusals_told b r } in
-    inl (refl, w, subst (λ o. StoppedGives o b w) (sym c.in-Plain.is) (r, c.in_ok-outcome-in-Plain.ensures.becomes, refl), (appends_none (g.O.Write.contents c.args.self.now.out), c.in_ok-print_refusals-in-Plain.ensures.told))
+    inl (refl, w, subst (λ o. StoppedGives o b w) (sym c.in-Plain.is) (r, c.in_ok-outcome-in-Plain.ensures.becomes, refl), (appends_none (g.O.Outlet.contents c.args.self.now.out), c.in_ok-print_refusals-in-Plain.ensures.told))
 
 pub returns-in-Trace-clause-breaks : goal.returns-in-Trace-clause-breaks
 returns-in-Trace-clause-breaks g c =
-    inl (refl, nothing, subst (λ o. StoppedGives o c.args.batch.now nothing) (sym c.in-Trace.is) refl, gains_none (holds g.O.Write.contents g.E.Write.contents c.args.self.now))
+    inl (refl, nothing, subst (λ o. StoppedGives o c.args.batch.now nothing) (sym c.in-Trace.is) refl, gains_none (holds g.O.Outlet.contents g.E.Outlet.contents c.args.self.now))

@@ -9,12 +9,12 @@ pub loop-numbered-init : goal.loop-numbered-init
 loop-numbered-init g c =
     let s = c.args.self.now in
     let new = c.new-script.ensures in
-    (new.counts, refl, (nothing, reached_start s.output c.args.text.now c.new-script.result c.at_start-batch.result new.rest new.read new.phase c.at_start-batch.ensures.section, gains_none (holds g.O.Write.contents g.E.Write.contents s)))
+    (new.counts, refl, (nothing, reached_start s.output c.args.text.now c.new-script.result c.at_start-batch.result new.rest new.read new.phase c.at_start-batch.ensures.section, gains_none (holds g.O.Outlet.contents g.E.Outlet.contents s)))
 
 pub loop-numbered-preserved : goal.loop-numbered-preserved
 loop-numbered-preserved g c =
-    let out = g.O.Write.contents in
-    let err = g.E.Write.contents in
+    let out = g.O.Outlet.contents in
+    let err = g.E.Outlet.contents in
     let s = c.args.self.now in
     let l = c.loop-numbered in
     let t = c.take.new.self in
@@ -31,8 +31,8 @@ returns-in_err-take-in-Ok-Some-clause-output g c = c.take.ensures.output ∙ c.l
 
 pub returns-in_err-take-in-Ok-Some-clause-feeds : goal.returns-in_err-take-in-Ok-Some-clause-feeds
 returns-in_err-take-in-Ok-Some-clause-feeds g c =
-    let out = g.O.Write.contents in
-    let err = g.E.Write.contents in
+    let out = g.O.Outlet.contents in
+    let err = g.E.Outlet.contents in
     let s = c.args.self.now in
     let l = c.loop-numbered in
     let t = c.take.new.self in
@@ -51,8 +51,8 @@ returns-in-Ok-None-clause-output g c = c.end.ensures.output ∙ c.loop-numbered.
 
 pub returns-in-Ok-None-clause-feeds : goal.returns-in-Ok-None-clause-feeds
 returns-in-Ok-None-clause-feeds g c =
-    let out = g.O.Write.contents in
-    let err = g.E.Write.contents in
+    let out = g.O.Outlet.contents in
+    let err = g.E.Outlet.contents in
     let s = c.args.self.now in
     let l = c.loop-numbered in
     let t = c.end.new.self in
@@ -67,8 +67,8 @@ returns-in-Err-clause-output g c = c.break_off.ensures.output ∙ c.loop-numbere
 
 pub returns-in-Err-clause-feeds : goal.returns-in-Err-clause-feeds
 returns-in-Err-clause-feeds g c =
-    let out = g.O.Write.contents in
-    let err = g.E.Write.contents in
+    let out = g.O.Outlet.contents in
+    let err = g.E.Outlet.contents in
     let s = c.args.self.now in
     let l = c.loop-numbered in
     let t = c.break_off.new.self in

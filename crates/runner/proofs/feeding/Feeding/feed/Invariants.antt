@@ -6,8 +6,8 @@ use Rattle.runner.proofs.feeding.Feeding.feed.Given as goal
 -- the lines read, and those that are left, can be counted; what is written is of the writers before the one at work
 abbrev pub invariant-loop-numbered : goal.invariant-loop-numbered
 invariant-loop-numbered g l =
-    let contents = g.O.Write.contents in
-    let errors = g.E.Write.contents in
+    let contents = g.O.Outlet.contents in
+    let errors = g.E.Outlet.contents in
     let output = l.initial.self.output in
     Countable l.script × (l.self.output ≡ output) × ((w : Written) × Reached output l.text l.script l.batch w × Gains (holds contents errors l.initial.self) (holds contents errors l.self) w)
 
