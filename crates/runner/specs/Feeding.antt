@@ -164,12 +164,13 @@ abbrev pub Takes : Output → Batch → Numbered → Batch → Result (Unit {0})
 Takes output b n b' result old new =
     ((done : Option Batch) × Extends done b n b' × EndsOne output done result old new) ⊎ ((role n.line ≡ Calls) × Stays b b' × BreaksOff output b' (record { line = n.number; fault = Memory }) result old new)
 
--- the error is one that one of the outputs gives, or want of memory
-abbrev pub EitherGives : (Error → Type 0) → (Error → Type 0) → Error → Type 0
-EitherGives out err e = GivesOrWants out e ⊎ err e
+-- the error is one that an output gives, or in a trace, which goes to the one alone, want of memory for a line
+abbrev pub Fails : Output → (Error → Type 0) → (Error → Type 0) → Error → Type 0
+Fails Plain out err e = out e ⊎ err e
+Fails Trace out err e = GivesOrWants out e
 
--- what could not be written has such an error
-abbrev pub HasGround : (Error → Type 0) → (Error → Type 0) → Result (Unit {0}) Stop → Type 0
-HasGround out err (Ok done) = Unit {0}
-HasGround out err (Err (Script e)) = Unit {0}
-HasGround out err (Err (Io e)) = EitherGives out err e
+-- where something could not be written, the error is such a one
+abbrev pub HasGround : Output → (Error → Type 0) → (Error → Type 0) → Result (Unit {0}) Stop → Type 0
+HasGround output out err (Ok done) = Unit {0}
+HasGround output out err (Err (Script e)) = Unit {0}
+HasGround output out err (Err (Io e)) = Fails output out err e

@@ -1,6 +1,6 @@
 // Takes a script line by line, runs each writer where the next begins or the script ends, and prints what became of it.
 ghost use Rattle.std.specs.Prelude.{◌≡◌, OnOk, IfErr};
-ghost use Rattle.runner.specs.Feeding.{holds, Gains, written_of, Ends, BreaksOff, Takes, Feeds, EitherGives, HasGround};
+ghost use Rattle.runner.specs.Feeding.{holds, Gains, written_of, Ends, BreaksOff, Takes, Feeds, Fails, HasGround};
 
 use crate::outlet::Outlet;
 use crate::printing::{print_refusals, print_trace, print_xml};
@@ -55,7 +55,7 @@ impl<O: Outlet + Drop, E: Outlet + Drop> Feeding<O, E> {
     fn print(&mut self, batch: &Batch, outcome: &Outcome) -> io::Result<()>
         ensures output { self.new.output ≡ self.old.output }
         ensures gains { OnOk result (Gains (holds O.contents E.contents self.old) (holds O.contents E.contents self.new) (written_of self.old.output batch.now outcome.now)) }
-        ensures io { IfErr result (EitherGives O.gives E.gives) }
+        ensures io { IfErr result (Fails self.old.output O.gives E.gives) }
     {
         match self.output {
             Output::Plain => {
@@ -70,7 +70,7 @@ impl<O: Outlet + Drop, E: Outlet + Drop> Feeding<O, E> {
     fn end(&mut self, batch: &Batch) -> Result<(), Stop>
         ensures output { self.new.output ≡ self.old.output }
         ensures ends { Ends self.old.output batch.now result (holds O.contents E.contents self.old) (holds O.contents E.contents self.new) }
-        ensures io { HasGround O.gives E.gives result }
+        ensures io { HasGround self.old.output O.gives E.gives result }
     {
         if batch.reported {
             let outcome = run(self.heap, batch)?;
@@ -84,7 +84,7 @@ impl<O: Outlet + Drop, E: Outlet + Drop> Feeding<O, E> {
     fn break_off(&mut self, batch: &Batch, error: ScriptError) -> Result<(), Stop>
         ensures output { self.new.output ≡ self.old.output }
         ensures breaks { BreaksOff self.old.output batch.now error result (holds O.contents E.contents self.old) (holds O.contents E.contents self.new) }
-        ensures io { HasGround O.gives E.gives result }
+        ensures io { HasGround self.old.output O.gives E.gives result }
     {
         match self.output {
             Output::Plain => {
@@ -100,7 +100,7 @@ impl<O: Outlet + Drop, E: Outlet + Drop> Feeding<O, E> {
     fn take(&mut self, batch: &mut Batch, numbered: Numbered) -> Result<(), Stop>
         ensures output { self.new.output ≡ self.old.output }
         ensures takes { Takes self.old.output batch.old numbered batch.new result (holds O.contents E.contents self.old) (holds O.contents E.contents self.new) }
-        ensures io { HasGround O.gives E.gives result }
+        ensures io { HasGround self.old.output O.gives E.gives result }
     {
         let line = numbered.number;
         match batch.take(self.heap, numbered) {
@@ -111,11 +111,11 @@ impl<O: Outlet + Drop, E: Outlet + Drop> Feeding<O, E> {
     }
 
     /// Runs a script: what its writers give is written, one after another, up to its end or to the error that it stops at.
-    /// What cannot be written is the fault of an output, or of want of memory for a line of a trace.
+    /// Where something cannot be written, the error is that of an output, or want of memory for a line of a trace.
     pub fn feed(&mut self, text: &[u8]) -> Result<(), Stop>
         ensures output { self.new.output ≡ self.old.output }
         ensures feeds { Feeds self.old.output text.now result (holds O.contents E.contents self.old) (holds O.contents E.contents self.new) }
-        ensures io { HasGround O.gives E.gives result }
+        ensures io { HasGround self.old.output O.gives E.gives result }
     {
         let mut script = Script::new(text);
         let mut batch = Batch::at_start(self.heap);

@@ -37,11 +37,11 @@ steps_told (c ∷ cs) (r ∷ rs) = ended (step_told c r) ++ steps_told cs rs
 steps_told cs rs = []
 
 abbrev pub title : List ℕ → List ℕ
-title style = codes "A record of a map sheet, in the style `" ++ (style ++ ended (codes "`:"))
+title style = ended (codes "A record of a map sheet, in the style `" ++ (style ++ codes "`:"))
 
 -- as in `The sink holds 373 bytes and has room for 65163:`
 abbrev pub holding : Ran → List ℕ
-holding r = codes "The sink holds " ++ (decimal (length (vec_items r.bytes)) ++ (codes " bytes and has room for " ++ (decimal r.room ++ ended (codes ":"))))
+holding r = ended (codes "The sink holds " ++ (decimal (length (vec_items r.bytes)) ++ (codes " bytes and has room for " ++ (decimal r.room ++ codes ":"))))
 
 -- the style, each call with its answer, what the sink holds, and the XML last; nothing where the style is refused
 abbrev pub page : List ℕ → List (List ℕ) → Result Ran Refusal → List ℕ

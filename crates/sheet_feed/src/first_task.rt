@@ -1,14 +1,16 @@
 // The record that is shown without a script: one map sheet, call by call.
-ghost use Rattle.std.specs.Prelude.{◌∷◌, Ok, OnOk, IfOk, map};
+ghost use Rattle.std.specs.Prelude.{◌∷◌, Ok, OnOk, IfOk, IfErr, map};
 ghost use Rattle.std.specs.Io.KnownBytes.{Appends};
+ghost use Rattle.runner.specs.declared.feeding.Output.TheVariants.{Plain};
 ghost use Rattle.runner.specs.Printing.{ended};
+ghost use Rattle.runner.specs.Feeding.{HasGround};
 ghost use Rattle.sheet_feed.specs.FirstTask.{TakesOne, IsBatchOfLines, step_told, steps_told, title, holding, page, Shows};
 
 use feed::Batch;
-use runner::{Outcome, Ran, Stop, run};
+use runner::{Outcome, Outlet, Ran, Stop, run};
 use script::{Fault, Numbered, read_line};
 use std::alloc::Global;
-use std::io::{self, Write};
+use std::io;
 use writer::Answer;
 
 const STYLE: &str = "style self-closed 32 2";
@@ -73,17 +75,19 @@ fn read_steps(heap: Global, style: &str, calls: &[&str]) -> Result<Batch, Fault>
     Ok(batch)
 }
 
-fn print_step<O: Write>(out: &mut O, text: &str, answer: Answer) -> io::Result<()>
+fn print_step<O: Outlet>(out: &mut O, text: &str, answer: Answer) -> io::Result<()>
     ensures told { OnOk result (Appends (O.contents out.old) (O.contents out.new) (ended (step_told text.now answer))) }
+    ensures gives { IfErr result O.gives }
 {
     match answer {
-        Ok(()) => writeln!(out, "  {text}: accepted"),
-        Err(refusal) => writeln!(out, "  {text}: {refusal}"),
+        Ok(()) => out.put_line(format_args!("  {text}: accepted")),
+        Err(refusal) => out.put_line(format_args!("  {text}: {refusal}")),
     }
 }
 
-fn print_steps<O: Write>(out: &mut O, calls: &[&str], answers: &[Answer]) -> io::Result<()>
+fn print_steps<O: Outlet>(out: &mut O, calls: &[&str], answers: &[Answer]) -> io::Result<()>
     ensures told { OnOk result (Appends (O.contents out.old) (O.contents out.new) (steps_told (map (λ call. call.now) calls.now) answers.now)) }
+    ensures gives { IfErr result O.gives }
 {
     for (text, answer) in calls.iter().zip(answers) {
         print_step(out, text, *answer)?;
@@ -91,30 +95,34 @@ fn print_steps<O: Write>(out: &mut O, calls: &[&str], answers: &[Answer]) -> io:
     Ok(())
 }
 
-fn print_title<O: Write>(out: &mut O, style: &str) -> io::Result<()>
+fn print_title<O: Outlet>(out: &mut O, style: &str) -> io::Result<()>
     ensures told { OnOk result (Appends (O.contents out.old) (O.contents out.new) (title style.now)) }
+    ensures gives { IfErr result O.gives }
 {
-    writeln!(out, "A record of a map sheet, in the style `{style}`:")
+    out.put_line(format_args!("A record of a map sheet, in the style `{style}`:"))
 }
 
-fn print_holding<O: Write>(out: &mut O, ran: &Ran) -> io::Result<()>
+fn print_holding<O: Outlet>(out: &mut O, ran: &Ran) -> io::Result<()>
     ensures told { OnOk result (Appends (O.contents out.old) (O.contents out.new) (holding ran.now)) }
+    ensures gives { IfErr result O.gives }
 {
     let bytes = ran.bytes.len();
     let room = ran.room;
-    writeln!(out, "The sink holds {bytes} bytes and has room for {room}:")
+    out.put_line(format_args!("The sink holds {bytes} bytes and has room for {room}:"))
 }
 
-fn print_bytes<O: Write>(out: &mut O, bytes: &[u8]) -> io::Result<()>
+fn print_bytes<O: Outlet>(out: &mut O, bytes: &[u8]) -> io::Result<()>
     ensures told { OnOk result (Appends (O.contents out.old) (O.contents out.new) (ended bytes.now)) }
+    ensures gives { IfErr result O.gives }
 {
-    out.write_all(bytes)?;
-    writeln!(out)
+    out.put(bytes)?;
+    out.put_line("")
 }
 
 // Each call with its answer, what the sink answers, and the XML that it holds.
-fn print_ran<O: Write>(out: &mut O, style: &str, calls: &[&str], ran: &Ran) -> io::Result<()>
+fn print_ran<O: Outlet>(out: &mut O, style: &str, calls: &[&str], ran: &Ran) -> io::Result<()>
     ensures told { OnOk result (Appends (O.contents out.old) (O.contents out.new) (page style.now (map (λ call. call.now) calls.now) (Ok ran.now))) }
+    ensures gives { IfErr result O.gives }
 {
     print_title(out, style)?;
     print_steps(out, calls, &ran.answers)?;
@@ -122,13 +130,14 @@ fn print_ran<O: Write>(out: &mut O, style: &str, calls: &[&str], ran: &Ran) -> i
     print_bytes(out, &ran.bytes)
 }
 
-fn print_page<O: Write>(
+fn print_page<O: Outlet>(
     out: &mut O,
     style: &str,
     calls: &[&str],
     outcome: &Outcome,
 ) -> io::Result<()>
     ensures told { OnOk result (Appends (O.contents out.old) (O.contents out.new) (page style.now (map (λ call. call.now) calls.now) outcome.now)) }
+    ensures gives { IfErr result O.gives }
 {
     match outcome {
         Ok(ran) => print_ran(out, style, calls, ran),
@@ -136,8 +145,9 @@ fn print_page<O: Write>(
     }
 }
 
-fn show_calls<O: Write>(heap: Global, out: &mut O, style: &str, calls: &[&str]) -> Result<(), Stop>
+fn show_calls<O: Outlet>(heap: Global, out: &mut O, style: &str, calls: &[&str]) -> Result<(), Stop>
     ensures shows { Shows style.now (map (λ call. call.now) calls.now) result (O.contents out.old) (O.contents out.new) }
+    ensures io { HasGround Plain O.gives (λ _. ⊥) result }
 {
     let batch = read_steps(heap, style, calls).map_err(|fault| fault.at_line(1))?;
     let outcome = run(heap, &batch)?;
@@ -145,9 +155,10 @@ fn show_calls<O: Write>(heap: Global, out: &mut O, style: &str, calls: &[&str]) 
     Ok(())
 }
 
-/// Makes the calls, and prints what comes of them.
-pub fn show<O: Write>(heap: Global, out: &mut O) -> Result<(), Stop>
+/// Makes the calls, and prints what comes of them. Where that fails, the error is one that the output gives.
+pub fn show<O: Outlet>(heap: Global, out: &mut O) -> Result<(), Stop>
     ensures shows { Shows STYLE.now (map (λ call. call.now) CALLS) result (O.contents out.old) (O.contents out.new) }
+    ensures io { HasGround Plain O.gives (λ _. ⊥) result }
 {
     show_calls(heap, out, STYLE, &CALLS)
 }

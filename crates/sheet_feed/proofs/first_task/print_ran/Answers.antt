@@ -5,9 +5,9 @@ use Rattle.sheet_feed.specs.FirstTask.{title, holding, steps_told}
 use Rattle.sheet_feed.proofs.Steps.{texts, ok_then}
 use Rattle.sheet_feed.proofs.first_task.print_ran.Goals as goal
 
-pub returns : goal.returns
-returns g c =
-    let held = g.O.Write.contents in
+pub returns-clause-told : goal.returns-clause-told
+returns-clause-told g c =
+    let held = g.O.Outlet.contents in
     let r = c.args.ran.now in
     let a = held c.args.out.now in
     let titled = held c.print_title.new.out in
@@ -19,4 +19,4 @@ returns g c =
     let bytes = ended (vec_items r.bytes) in
     let told = subst (λ x. Appends titled stepped (steps_told (texts c.args.calls.now) x)) c.deref.ensures.value c.in_ok-print_steps.ensures.told in
     let last = subst (λ x. OnOk result (Appends counted z (ended x))) c.deref-2.ensures.value c.print_bytes.ensures.told in
-    record { told = ok_then a titled z result (title c.args.style.now) (steps ++ (holding r ++ bytes)) c.in_ok-print_title.ensures.told (ok_then titled stepped z result steps (holding r ++ bytes) told (ok_then stepped counted z result (holding r) bytes c.in_ok-print_holding.ensures.told last)) }
+    ok_then a titled z result (title c.args.style.now) (steps ++ (holding r ++ bytes)) c.in_ok-print_title.ensures.told (ok_then titled stepped z result steps (holding r ++ bytes) told (ok_then stepped counted z result (holding r) bytes c.in_ok-print_holding.ensures.told last))

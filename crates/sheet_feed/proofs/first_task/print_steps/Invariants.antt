@@ -7,4 +7,4 @@ use Rattle.sheet_feed.proofs.first_task.print_steps.Given as goal
 -- what is printed so far is what comes before the calls that are left
 abbrev pub invariant-loop-text : goal.invariant-loop-text
 invariant-loop-text g l =
-    (x : List ℕ) × Appends (g.O.Write.contents l.initial.out) (g.O.Write.contents l.out) x × (x ++ steps_told (texts l.text-iterator.a.rest.now) l.text-iterator.b.rest.now ≡ steps_told (texts l.calls) l.answers)
+    (x : List ℕ) × Appends (g.O.Outlet.contents l.initial.out) (g.O.Outlet.contents l.out) x × (x ++ steps_told (texts l.text-iterator.a.rest.now) l.text-iterator.b.rest.now ≡ steps_told (texts l.calls) l.answers)
