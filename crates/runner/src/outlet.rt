@@ -40,3 +40,6 @@ impl<W: Write> Outlet for W {
         self.writeln(line)
     }
 }
+
+#[cfg(test)]
+mod tests;
