@@ -2,6 +2,7 @@
 use Rattle.std.specs.Prelude.{◌≡◌, ℕ, ◌+◌, ◌<◌, List, ◌++◌, length, Ok, Err, Result}
 use Rattle.refusal.specs.declared.Refusal.{Refusal}
 use Rattle.refusal.specs.Refusals.{Refuses}
+use Rattle.std.specs.Borrow.{MutBor}
 use Rattle.memory.specs.Laid.{laid}
 
 -- the answer to `bytes`, with what the sink held and its room before, and the same after
@@ -14,3 +15,7 @@ Puts (Err e) bytes held room held' room' = Refuses 9 0 e × (room < length bytes
 abbrev pub Keeps : Result (Unit {0}) Refusal → List ℕ → List ℕ → ℕ → List ℕ → Type 0
 Keeps (Ok done) bytes memory len memory' = memory' ≡ laid memory len bytes
 Keeps (Err e) bytes memory len memory' = memory' ≡ memory
+
+-- the same of lent memory, which stays the reference that was lent
+abbrev pub KeepsLent : Result (Unit {0}) Refusal → List ℕ → MutBor (List ℕ) → ℕ → MutBor (List ℕ) → Type 0
+KeepsLent r bytes b len c = Keeps r bytes b.now len c.now × (c.ghost_name ≡ b.ghost_name)

@@ -51,6 +51,8 @@ impl Sink for PageSink {
 
     ghost room = { λ s. 4096 - s.len };
 
+    ghost leaves = { λ s bytes r s'. Keeps r bytes (flat s.pages.pages) s.len (flat s'.pages.pages) };
+
     fn counts(&self) -> (usize, usize) {
         (self.len, SIZE - self.len)
     }

@@ -1,4 +1,6 @@
-// Edges of the two sinks.
+// Edges of the two sinks, and what a lender finds in its buffer once the sink is gone.
+ghost use Rattle.sink.specs.Puts.{Keeps};
+
 use crate::{BufferSink, PageSink, Sink};
 use refusal::Refusal;
 use std::process::Abort;
@@ -38,6 +40,23 @@ fn a_buffer_keeps_what_it_does_not_hold(rt: HostRuntime) {
         assert_eq!(rt; sink.held(), b"<a/>".as_slice());
     }
     assert_eq!(rt; memory, *b"<a/>\x07\x07");
+}
+
+// The lender's view: once the sink is gone, its memory holds what the put left.
+fn put_once(memory: &mut [u8], bytes: &[u8]) -> Result<(), Refusal>
+    ensures memory { Keeps result bytes.now memory.old 0 memory.new }
+{
+    let mut sink = BufferSink::new(memory);
+    sink.put(bytes)
+}
+
+#[test]
+fn a_lender_gets_it_back(rt: HostRuntime) {
+    let mut memory = [7u8; 5];
+    assert_eq!(rt; put_once(&mut memory, b"<a/>"), Ok(()));
+    assert_eq!(rt; memory, *b"<a/>\x07");
+    assert_eq!(rt; put_once(&mut memory, b"<title/>"), Err(Refusal::Sink));
+    assert_eq!(rt; memory, *b"<a/>\x07");
 }
 
 #[test]
