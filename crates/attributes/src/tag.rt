@@ -1,5 +1,6 @@
 // The step that each of these calls ends with.
 ghost use Rattle.std.specs.Prelude.{◌<◌, ◌≤◌, length};
+ghost use Rattle.memory.specs.Lending.{usable};
 ghost use Rattle.engine.specs.Memory.{mem, frame_at};
 ghost use Rattle.attributes.specs.Inserts.{Inserts};
 
@@ -15,8 +16,8 @@ pub(crate) fn insert<P: Piece>(
     piece: &P,
     next: Place,
 ) -> Result<(), Refusal>
-    requires used { core.old.stage.used ≤ length core.old.stage.all.now }
-    requires within { frame < length core.old.frames.all.now }
+    requires used { core.old.stage.used ≤ length (usable core.old.stage) }
+    requires within { frame < length (usable core.old.frames) }
     requires tag { (frame_at (mem core.old) frame).tag ≤ core.old.stage.used }
     ensures inserts { Inserts result frame (P.bytes piece.now) next (mem core.old) (mem core.new) }
 {

@@ -12,8 +12,8 @@ use Rattle.rows.specs.Pieces.{name_of}
 abbrev pub left_root : Mem → Mem
 left_root w = record {
   stage = w.stage;
-  names = record { all = w.names.all; used = 0 };
-  frames = record { all = w.frames.all; used = 0 };
+  names = record w.names { used = 0 };
+  frames = record w.frames { used = 0 };
   records = 0;
   place = Complete;
   wordy = false;
@@ -31,7 +31,7 @@ Left w v = (w.frames.used ≡ 1 → v ≡ left_root w) × (1 < w.frames.used →
 
 -- the stage with the `>` of a start tag put in where the tag ends, before the children
 abbrev pub stage_shut : ℕ → Mem → Buf ℕ
-stage_shut tag w = record { all = opened w.stage.all tag w.stage.used (codes ">"); used = w.stage.used + 1 }
+stage_shut tag w = record w.stage { all = opened w.stage.all tag w.stage.used (codes ">"); used = w.stage.used + 1 }
 
 -- the `<` of the end tag of the record on top, with its indent
 abbrev pub end_lead : Mem → List ℕ

@@ -3,6 +3,7 @@ ghost use Rattle.std.specs.Prelude.{◌≡◌, ℕ, ◌<◌, ◌≤◌, length};
 ghost use Rattle.model.specs.declared.place.Place.TheVariants.{Field as FieldPlace};
 ghost use Rattle.model.specs.Calls.{call_end};
 ghost use Rattle.model.specs.Marks.{shut};
+ghost use Rattle.memory.specs.Lending.{usable};
 ghost use Rattle.engine.specs.Memory.{mem, Safe, top_frame};
 ghost use Rattle.engine.specs.Lays.{Does};
 ghost use Rattle.rows.specs.Pieces.{name_of};
@@ -17,7 +18,7 @@ use style::WriteResult;
 // Frees the record's frame: the root is complete, and any other record is an element in the one around it.
 fn leave_record(core: &mut Core<'_>)
     requires open { 0 < core.old.frames.used }
-    requires within { core.old.frames.used ≤ length core.old.frames.all.now }
+    requires within { core.old.frames.used ≤ length (usable core.old.frames) }
     requires records { 0 < core.old.records }
     ensures left { Left (mem core.old) (mem core.new) }
 {

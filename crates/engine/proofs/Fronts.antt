@@ -30,7 +30,7 @@ front_first b xs ys at e f =
 pub front_second : {A : Type 0} (b : Buf A) (xs ys : List A) (at : ℕ) → at ≡ length xs → Front b (xs ++ ys) → take (b.used - at) (drop at b.all) ≡ ys
 front_second b xs ys at e f = between_is b.all at b.used ∙ ap (drop at) f.is ∙ drop_at xs ys at (sym e)
 
-pub front_opened : (b : Buf ℕ) (xs ys s : List ℕ) (at : ℕ) → at ≡ length xs → b.used + length s ≤ length b.all → Front b (xs ++ ys) → Front (record { all = opened b.all at b.used s; used = b.used + length s }) (xs ++ (s ++ ys))
+pub front_opened : (b : Buf ℕ) (xs ys s : List ℕ) (at : ℕ) → at ≡ length xs → b.used + length s ≤ length b.all → Front b (xs ++ ys) → Front (record b { all = opened b.all at b.used s; used = b.used + length s }) (xs ++ (s ++ ys))
 front_opened b xs ys s at e h f =
     let n = front_length b (xs ++ ys) f in
     let m = length-append xs ys in
@@ -40,7 +40,7 @@ front_opened b xs ys s at e h f =
       is = take-opened b.all s at b.used low h ∙ ap (λ x. x ++ (s ++ take (b.used - at) (drop at b.all))) (front_first b xs ys at e f) ∙ ap (λ x. xs ++ (s ++ x)) (front_second b xs ys at e f);
     }
 
-pub front_push : {A : Type 0} (b : Buf A) (xs : List A) (f : A) → b.used < length b.all → Front b xs → Front (record { all = set b.all b.used f; used = b.used + 1 }) (xs ++ (f ∷ []))
+pub front_push : {A : Type 0} (b : Buf A) (xs : List A) (f : A) → b.used < length b.all → Front b xs → Front (record b { all = set b.all b.used f; used = b.used + 1 }) (xs ++ (f ∷ []))
 front_push b xs f h k =
     record { fits = omega (arith, length-set b.all b.used f); is = take_more_set b.all b.used f h ∙ ap (λ x. x ++ (f ∷ [])) k.is }
 
@@ -48,7 +48,7 @@ front_push b xs f h k =
 take_set_below : {A : Type 0} (xs : List A) (n k : ℕ) (y : A) → k < n → n ≤ length xs → take n (set xs k y) ≡ set (take n xs) k y
 take_set_below xs n k y a b = same_lists _ _ (search (rules, places)) (λ i d h. grind (arith, places, get_or-set_same, cases_eq i k))
 
-pub front_set : {A : Type 0} (b : Buf A) (xs : List A) (f g : A) (ys : List A) (k : ℕ) → k ≡ length xs → Front b (xs ++ (f ∷ ys)) → Front (record { all = set b.all k g; used = b.used }) (xs ++ (g ∷ ys))
+pub front_set : {A : Type 0} (b : Buf A) (xs : List A) (f g : A) (ys : List A) (k : ℕ) → k ≡ length xs → Front b (xs ++ (f ∷ ys)) → Front (record b { all = set b.all k g; used = b.used }) (xs ++ (g ∷ ys))
 front_set b xs f g ys k e h =
     let n = front_length b (xs ++ (f ∷ ys)) h in
     let m = length-append xs (f ∷ ys) in
@@ -64,7 +64,7 @@ front_get b xs f ys k d e h =
     sym (get_or-take b.used b.all k d (omega (arith, n, m))) ∙ ap (λ x. get_or x k d) h.is ∙ get_or_at xs f ys d k (sym e)
 
 -- less of it is in use
-pub front_cut : {A : Type 0} (b : Buf A) (xs ys : List A) (k : ℕ) → k ≡ length ys → take (length ys) xs ≡ ys → Front b xs → Front (record { all = b.all; used = k }) ys
+pub front_cut : {A : Type 0} (b : Buf A) (xs ys : List A) (k : ℕ) → k ≡ length ys → take (length ys) xs ≡ ys → Front b xs → Front (record b { used = k }) ys
 front_cut b xs ys k e t f =
     let n = front_length b xs f in
     let l : length (take (length ys) xs) ≡ length ys = ap length t in
@@ -90,23 +90,23 @@ nested_rest xs ys [] b n = tt
 nested_rest xs ys (zs ∷ rest) b n = (begins_within zs ys xs n.0 b, n.1)
 
 pub past_same : {A : Type 0} (b : Buf A) → Past b b
-past_same b = record { size = refl; past = refl }
+past_same b = record { size = refl; past = refl; rest = refl; reference = refl }
 
-pub past_cut : {A : Type 0} (b : Buf A) (k : ℕ) → Past b (record { all = b.all; used = k })
-past_cut b k = record { size = refl; past = refl }
+pub past_cut : {A : Type 0} (b : Buf A) (k : ℕ) → Past b (record b { used = k })
+past_cut b k = record { size = refl; past = refl; rest = refl; reference = refl }
 
 pub past_grown : (b : Buf ℕ) (s : List ℕ) → b.used + length s ≤ length b.all → Past b (grown b s)
-past_grown b s h = record { size = length-laid b.all s b.used h; past = drop-laid b.all s b.used h }
+past_grown b s h = record { size = length-laid b.all s b.used h; past = drop-laid b.all s b.used h; rest = refl; reference = refl }
 
-pub past_opened : (b : Buf ℕ) (s : List ℕ) (at : ℕ) → at ≤ b.used → b.used + length s ≤ length b.all → Past b (record { all = opened b.all at b.used s; used = b.used + length s })
-past_opened b s at l h = record { size = length-opened b.all s at b.used l h; past = drop-opened b.all s at b.used l h }
+pub past_opened : (b : Buf ℕ) (s : List ℕ) (at : ℕ) → at ≤ b.used → b.used + length s ≤ length b.all → Past b (record b { all = opened b.all at b.used s; used = b.used + length s })
+past_opened b s at l h = record { size = length-opened b.all s at b.used l h; past = drop-opened b.all s at b.used l h; rest = refl; reference = refl }
 
-pub past_set : {A : Type 0} (b : Buf A) (k u : ℕ) (g : A) → k < u → Past b (record { all = set b.all k g; used = u })
-past_set b k u g h = record { size = length-set b.all k g; past = drop-set-lt u b.all k g h }
+pub past_set : {A : Type 0} (b : Buf A) (k u : ℕ) (g : A) → k < u → Past b (record b { all = set b.all k g; used = u })
+past_set b k u g h = record { size = length-set b.all k g; past = drop-set-lt u b.all k g h; rest = refl; reference = refl }
 
 -- one step after another, while the part in use does not become smaller
 pub past_then : {A : Type 0} (b c d : Buf A) → c.used ≤ d.used → Past b c → Past c d → Past b d
 past_then b c d h p q =
     let e : c.used + (d.used - c.used) ≡ d.used = omega arith in
     let more : (l : List _) → drop d.used l ≡ drop (d.used - c.used) (drop c.used l) = λ l. ap (λ n. drop n l) (sym e) ∙ sym (drop-drop (d.used - c.used) c.used l) in
-    record { size = q.size ∙ p.size; past = q.past ∙ more c.all ∙ ap (drop (d.used - c.used)) p.past ∙ sym (more b.all) }
+    record { size = q.size ∙ p.size; past = q.past ∙ more c.all ∙ ap (drop (d.used - c.used)) p.past ∙ sym (more b.all); rest = q.rest ∙ p.rest; reference = q.reference ∙ p.reference }

@@ -68,10 +68,12 @@ pub record Lays (m : State) (w : Mem) : Type 0 where
   pub holds : Holds m w
   pub place : w.place ≡ place m
 
--- what lies past the part in use is as it was, and the slice is as long
+-- it is still the same slice, as long as it was, and what lies past the part in use is as it was, as is what lies past all that may be used
 pub record Past {A : Type 0} (b c : Buf A) : Type 0 where
   pub size : length c.all ≡ length b.all
   pub past : drop c.used c.all ≡ drop c.used b.all
+  pub rest : c.rest ≡ b.rest
+  pub reference : c.reference ≡ b.reference
 
 -- past the parts in use nothing has changed, nor has the style
 pub record Beyond (w v : Mem) : Type 0 where

@@ -1,5 +1,6 @@
 -- The writer's memory as lists and numbers, and what each small step does to it. Assumes nothing.
 use Rattle.std.specs.Prelude.{◌≡◌, ℕ, ◌+◌, ◌-◌, ◌<◌, ◌≤◌, Bool, not, ◌&&◌, List, length, Some, None, Option, Ok, Err, Result, slice_index_or, slice_range, slice_set}
+use Rattle.std.specs.Borrow.{GName}
 use Rattle.style.specs.declared.indentation.Indentation.{Indentation}
 use Rattle.style.specs.declared.result.WriteResult.{WriteResult}
 use Rattle.style.specs.declared.style.EmptyElementHandling.{EmptyElementHandling}
@@ -7,6 +8,7 @@ use Rattle.refusal.specs.declared.Refusal.{Refusal}
 use Rattle.refusal.specs.declared.Refusal.TheVariants.{Stage}
 use Rattle.memory.specs.declared.lent.Lent.{Lent}
 use Rattle.memory.specs.Laid.{laid}
+use Rattle.memory.specs.Lending.{usable, past}
 use Rattle.memory.specs.Opened.{opened}
 use Rattle.model.specs.declared.place.Place.{Place}
 use Rattle.model.specs.declared.place.Place.TheVariants.{Idle}
@@ -15,10 +17,12 @@ use Rattle.model.specs.Marks.{bytes_of_mark, less_than}
 use Rattle.engine.specs.Frames.{no_frame, settled_frame, longer_tag, next_place}
 use Rattle.engine.specs.declared.state.Core.{Core}
 
--- one of the caller's slices, and how much of it is in use
+-- one of the caller's slices: what may be used of it, how much of that is in use, what lies past it, and which reference it is
 pub record Buf (A : Type 0) : Type 0 where
   pub all : List A
   pub used : ℕ
+  pub rest : List A
+  pub reference : GName
 
 -- all that a writer holds
 pub record Mem : Type 0 where
@@ -33,7 +37,7 @@ pub record Mem : Type 0 where
 
 -- the structs of the code, read so
 abbrev pub buf : {A : Type 0} → Lent A → Buf A
-buf b = record { all = b.all.now; used = b.used }
+buf b = record { all = usable b; used = b.used; rest = past b; reference = b.all.ghost_name }
 
 abbrev pub mem : Core → Mem
 mem w = record {
@@ -49,7 +53,7 @@ mem w = record {
 
 -- src laid behind what is in use
 abbrev pub grown : Buf ℕ → List ℕ → Buf ℕ
-grown b src = record { all = laid b.all b.used src; used = b.used + length src }
+grown b src = record b { all = laid b.all b.used src; used = b.used + length src }
 
 abbrev pub with_stage : Mem → Buf ℕ → Mem
 with_stage w b = record { stage = b; names = w.names; frames = w.frames; records = w.records; place = w.place; wordy = w.wordy; form = w.form; indentation = w.indentation }
@@ -86,11 +90,11 @@ name_at w from end = slice_range w.names.all from end
 
 -- a frame on the frame table
 abbrev pub pushed : Frame → Mem → Mem
-pushed f w = with_frames w (record { all = slice_set w.frames.all w.frames.used f; used = w.frames.used + 1 })
+pushed f w = with_frames w (record w.frames { all = slice_set w.frames.all w.frames.used f; used = w.frames.used + 1 })
 
 -- the top frame is free again
 abbrev pub popped : Mem → Mem
-popped w = with_frames w (record { all = w.frames.all; used = w.frames.used - 1 })
+popped w = with_frames w (record w.frames { used = w.frames.used - 1 })
 
 abbrev pub frame_at : Mem → ℕ → Frame
 frame_at w k = slice_index_or w.frames.all k no_frame
@@ -105,9 +109,9 @@ lead_among w around = bytes_of_mark w.indentation (less_than ((top_frame w).flag
 -- bytes put in at the end of the open tag of the record whose frame stands at k
 abbrev pub in_tag : ℕ → List ℕ → Mem → Mem
 in_tag k src w = record {
-  stage = record { all = opened w.stage.all (frame_at w k).tag w.stage.used src; used = w.stage.used + length src };
+  stage = record w.stage { all = opened w.stage.all (frame_at w k).tag w.stage.used src; used = w.stage.used + length src };
   names = w.names;
-  frames = record { all = slice_set w.frames.all k (longer_tag ((frame_at w k).tag + length src) (frame_at w k)); used = w.frames.used };
+  frames = record w.frames { all = slice_set w.frames.all k (longer_tag ((frame_at w k).tag + length src) (frame_at w k)); used = w.frames.used };
   records = w.records;
   place = w.place;
   wordy = w.wordy;
@@ -120,8 +124,8 @@ in_tag k src w = record {
 abbrev pub settled_in : Frame → WriteResult → Mem → Mem
 settled_in f r w = record {
   stage = w.stage;
-  names = record { all = w.names.all; used = f.keep };
-  frames = record { all = slice_set w.frames.all (w.frames.used - 1) (settled_frame r f); used = w.frames.used };
+  names = record w.names { used = f.keep };
+  frames = record w.frames { all = slice_set w.frames.all (w.frames.used - 1) (settled_frame r f); used = w.frames.used };
   records = w.records;
   place = next_place f.kind w.wordy f.from;
   wordy = w.wordy;
@@ -136,9 +140,9 @@ settled r w = settled_in (top_frame w) r w
 -- nothing is in use any more
 abbrev pub emptied : Mem → Mem
 emptied w = record {
-  stage = record { all = w.stage.all; used = 0 };
-  names = record { all = w.names.all; used = 0 };
-  frames = record { all = w.frames.all; used = 0 };
+  stage = record w.stage { used = 0 };
+  names = record w.names { used = 0 };
+  frames = record w.frames { used = 0 };
   records = 0;
   place = Idle;
   wordy = w.wordy;

@@ -1,6 +1,7 @@
 // The small steps on the writer's memory.
 // `put` and `put_in_tag` refuse what does not fit; a caller of the others has asked for the room first.
 ghost use Rattle.std.specs.Prelude.{◌≡◌, ℕ, ◌+◌, ◌<◌, ◌≤◌, Bool, length};
+ghost use Rattle.memory.specs.Lending.{usable};
 ghost use Rattle.engine.specs.Frames.{next_place};
 ghost use Rattle.engine.specs.Memory.{mem, buf, Put, PutInTag, lead_among, pushed, settled, emptied, top_frame, frame_at};
 
@@ -16,7 +17,7 @@ pub type Lead = (Option<([u8; 1], Run)>, [u8; 1]);
 
 /// Puts a piece behind what is in use of the stage, or refuses it where it does not fit.
 pub fn put<P: Piece>(stage: &mut Lent<'_, u8>, piece: &P) -> Result<(), Refusal>
-    requires { stage.old.used ≤ length stage.old.all.now }
+    requires { stage.old.used ≤ length (usable stage.old) }
     ensures puts { Put result (P.bytes piece.now) (buf stage.old) (buf stage.new) }
 {
     if !stage.fits(piece) {
@@ -42,7 +43,7 @@ impl Core<'_> {
     /// The frame of the innermost open thing.
     pub fn top(&self) -> Frame
         requires open { 0 < self.now.frames.used }
-        requires within { self.now.frames.used ≤ length self.now.frames.all.now }
+        requires within { self.now.frames.used ≤ length (usable self.now.frames) }
         ensures value { result ≡ top_frame (mem self.now) }
     {
         self.frames.get(self.frames.used - 1)
@@ -52,7 +53,7 @@ impl Core<'_> {
     /// around the tag.
     pub fn lead(&self, around: usize) -> Lead
         requires open { 0 < self.now.frames.used }
-        requires within { self.now.frames.used ≤ length self.now.frames.all.now }
+        requires within { self.now.frames.used ≤ length (usable self.now.frames) }
         requires small { around ≤ 64 }
         ensures value { ⟦<Lead as Piece>⟧.bytes result ≡ lead_among (mem self.now) around }
         ensures small { length (⟦<Lead as Piece>⟧.bytes result) ≤ 1026 }
@@ -73,8 +74,8 @@ impl Core<'_> {
     /// Puts a piece in at the end of the open tag of the record whose frame stands at `frame`, before its children, or refuses
     /// it where it does not fit.
     pub fn put_in_tag<P: Piece>(&mut self, frame: usize, piece: &P) -> Result<(), Refusal>
-        requires used { self.old.stage.used ≤ length self.old.stage.all.now }
-        requires within { frame < length self.old.frames.all.now }
+        requires used { self.old.stage.used ≤ length (usable self.old.stage) }
+        requires within { frame < length (usable self.old.frames) }
         requires tag { (frame_at (mem self.old) frame).tag ≤ self.old.stage.used }
         ensures puts { PutInTag result frame (P.bytes piece.now) (mem self.old) (mem self.new) }
     {
@@ -83,13 +84,13 @@ impl Core<'_> {
         }
         let tag = self.frames.get(frame).tag;
         let end = self.stage.insert(tag, piece);
-        lengthen_tag(self.frames.all, frame, end);
+        lengthen_tag(&mut self.frames, frame, end);
         Ok(())
     }
 
     /// Takes a frame.
     pub fn push(&mut self, frame: Frame)
-        requires { self.old.frames.used < length self.old.frames.all.now }
+        requires { self.old.frames.used < length (usable self.old.frames) }
         ensures memory { mem self.new ≡ pushed frame (mem self.old) }
     {
         self.frames.push(frame);
@@ -98,11 +99,11 @@ impl Core<'_> {
     /// A value with this result is complete.
     pub fn settle(&mut self, res: WriteResult)
         requires open { 0 < self.old.frames.used }
-        requires within { self.old.frames.used ≤ length self.old.frames.all.now }
+        requires within { self.old.frames.used ≤ length (usable self.old.frames) }
         ensures memory { mem self.new ≡ settled res (mem self.old) }
     {
         let at = self.frames.used - 1;
-        let frame = settle_frame(self.frames.all, at, res);
+        let frame = settle_frame(&mut self.frames, at, res);
         self.names.used = frame.keep;
         self.place = place_in(frame, self.wordy);
     }

@@ -1,5 +1,6 @@
 // Names that come on the name stack, and records that open.
 ghost use Rattle.std.specs.Prelude.{◌≡◌, ◌+◌, ◌<◌, ◌≤◌, ◌++◌, length, IfOk};
+ghost use Rattle.memory.specs.Lending.{usable};
 ghost use Rattle.engine.specs.Memory.{mem, Safe, name_put};
 ghost use Rattle.engine.specs.Opening.{FrameFree, Named, Awaits, begun, Opens};
 
@@ -14,7 +15,7 @@ use xml::XmlName;
 impl Core<'_> {
     /// Whether a frame is free.
     pub fn frame_free(&self) -> Result<(), Refusal>
-        requires { self.now.frames.used ≤ length self.now.frames.all.now }
+        requires { self.now.frames.used ≤ length (usable self.now.frames) }
         ensures free { FrameFree result (mem self.now) }
     {
         if self.frames.room() == 0 {
@@ -25,7 +26,7 @@ impl Core<'_> {
 
     /// The name that this text is, if it is one and the name stack has room for it.
     pub fn fitting_name<'n>(&self, text: &'n str) -> Result<XmlName<'n>, Refusal>
-        requires { self.now.names.used ≤ length self.now.names.all.now }
+        requires { self.now.names.used ≤ length (usable self.now.names) }
         ensures same { IfOk result (λ name. name.name.now ≡ text.now) }
         ensures named { Named result text.now (mem self.now) }
     {
@@ -38,7 +39,7 @@ impl Core<'_> {
 
     /// Puts a name on the name stack, and answers where it begins there.
     pub fn push_name(&mut self, name: &[u8]) -> usize
-        requires { self.old.names.used + length name.now ≤ length self.old.names.all.now }
+        requires { self.old.names.used + length name.now ≤ length (usable self.old.names) }
         ensures start { result ≡ self.old.names.used }
         ensures memory { mem self.new ≡ name_put name.now (mem self.old) }
     {
@@ -49,7 +50,7 @@ impl Core<'_> {
 
     /// The next value becomes an element of this name.
     pub fn await_element(&mut self, text: &str) -> Result<(), Refusal>
-        requires { self.old.names.used ≤ length self.old.names.all.now }
+        requires { self.old.names.used ≤ length (usable self.old.names) }
         ensures awaits { Awaits result text.now (mem self.old) (mem self.new) }
     {
         let name = self.fitting_name(text)?;
@@ -61,7 +62,7 @@ impl Core<'_> {
     /// A record begins whose tag's start stands last on the stage and whose name stands last on the name stack, from `from` on:
     /// it has no children yet, and its first field is awaited.
     pub fn begin_record(&mut self, from: usize)
-        requires free { self.old.frames.used < length self.old.frames.all.now }
+        requires free { self.old.frames.used < length (usable self.old.frames) }
         requires records { self.old.records ≤ 64 }
         ensures memory { mem self.new ≡ begun from (mem self.old) }
     {

@@ -19,7 +19,7 @@ use Rattle.engine.proofs.Telling.{no_bytes, Clear, Small, told_small, told_order
 use Rattle.nests.specs.Frames.{row_kind}
 
 -- one entry less is in use
-pub front_pop : {A : Type 0} (b : Buf A) (xs : List A) (f : A) → Front b (xs ++ (f ∷ [])) → Front (record { all = b.all; used = b.used - 1 }) xs
+pub front_pop : {A : Type 0} (b : Buf A) (xs : List A) (f : A) → Front b (xs ++ (f ∷ [])) → Front (record b { used = b.used - 1 }) xs
 front_pop b xs f h =
     front_cut b (xs ++ (f ∷ [])) xs (b.used - 1) (omega (arith, front_length b (xs ++ (f ∷ [])) h, length_push xs f)) (take_at xs (f ∷ []) (length xs) refl) h
 
