@@ -1,5 +1,5 @@
 -- A record is closed: its bytes on the stage, and what is open then. Assumes nothing.
-use Rattle.std.proofs.Common.{◌≡◌, ℕ, zero, suc, ◌-◌, ◌<◌, false, cond, not, ◌&&◌, List, [], ◌∷◌, ◌++◌, length, drop, codes, Option, sym, refl, ap, ◌∙◌, subst, append_assoc, arith}
+use Rattle.std.proofs.Common.{◌≡◌, ℕ, zero, suc, ◌-◌, ◌<◌, false, cond, not, ◌&&◌, List, [], ◌∷◌, ◌++◌, length, codes, Option, sym, refl, ap, ◌∙◌, subst, append_assoc, arith}
 use Rattle.std.proofs.lemmas.List.{append-nil, length-append, length_push}
 use Rattle.style.specs.declared.indentation.Indentation.{Indentation}
 use Rattle.style.specs.declared.result.WriteResult.TheVariants.{Element as element_result}
@@ -11,9 +11,9 @@ use Rattle.model.specs.Step.{with_body, with_tag, no_kids, end_tag, closed_recor
 use Rattle.model.specs.Layout.{stage, below, open_tag, tag_end, record_frame, outer_frames, row_frames}
 use Rattle.model.proofs.Flatten.{flatten-++, flatten_tagged}
 use Rattle.engine.specs.Frames.{settled_frame}
-use Rattle.engine.specs.Memory.{Mem, popped, counted, worded, top_frame}
+use Rattle.engine.specs.Memory.{Buf, Mem, popped, counted, worded, top_frame}
 use Rattle.engine.specs.Lays.{Front, Past, Nested, outer_stacks, Holds, Lays, Beyond}
-use Rattle.engine.proofs.Fronts.{front_length, front_as, front_cut, past_set}
+use Rattle.engine.proofs.Fronts.{front_length, front_as, front_cut, past_cut, past_set}
 use Rattle.engine.proofs.Settling.{lays_settle}
 use Rattle.engine.proofs.Values.{stage_settle}
 use Rattle.nests.proofs.Leaving.{front_pop}
@@ -132,19 +132,24 @@ lays_left x v f l (o ∷ os) g c y =
     let deep : 1 < x.frames.used = omega (arith, front_length x.frames (outer_frames i (o ∷ os) ++ (g ∷ [])) c.frames, length_push (outer_frames i (o ∷ os)) g, length-append (outer_frames i os) (record_frame i o.level os [] ∷ row_frames o.rows)) in
     subst (λ k. Lays (close f l (o ∷ os)) k) (sym (y.1 deep)) (lays_inner x f l o os g c)
 
+-- the same slice, of which another part is in use
+same_slice : {A : Type 0} (b c : Buf A) (k : ℕ) → c ≡ b → Past b (record c { used = k })
+same_slice b c k e = subst (λ x. Past b (record x { used = k })) (sym e) (past_cut b k)
+
 -- leaving changes nothing past the parts in use
-pub beyond_left : (w x v : Mem) → Past w.stage x.stage → x.names.all ≡ w.names.all → x.frames.all ≡ w.frames.all → x.form ≡ w.form → x.indentation ≡ w.indentation → 0 < x.frames.used → Left x v → Beyond w v
+pub beyond_left : (w x v : Mem) → Past w.stage x.stage → x.names ≡ w.names → x.frames ≡ w.frames → x.form ≡ w.form → x.indentation ≡ w.indentation → 0 < x.frames.used → Left x v → Beyond w v
 beyond_left w x v s n f g i deep y = go x.frames.used refl deep
   where
     root : x.frames.used ≡ 1 → Beyond w v
-    root e = subst (λ k. Beyond w k) (sym (y.0 e)) (record { stage = s; names = record { size = ap length n; past = ap (drop 0) n }; frames = record { size = ap length f; past = ap (drop 0) f }; form = g; indentation = i })
+    root e = subst (λ k. Beyond w k) (sym (y.0 e)) (record { stage = s; names = same_slice w.names x.names 0 n; frames = same_slice w.frames x.frames 0 f; form = g; indentation = i })
 
     inner : 1 < x.frames.used → Beyond w v
     inner h =
         let u = x.frames.used - 1 in
         let p = past_set x.frames (u - 1) u (settled_frame element_result (top_frame (popped x))) (omega (arith, h)) in
+        let q = same_slice w.frames x.frames u f in
         let keep = (top_frame (popped x)).keep in
-        subst (λ k. Beyond w k) (sym (y.1 h)) (record { stage = s; names = record { size = ap length n; past = ap (drop keep) n }; frames = record { size = p.size ∙ ap length f; past = p.past ∙ ap (drop u) f }; form = g; indentation = i })
+        subst (λ k. Beyond w k) (sym (y.1 h)) (record { stage = s; names = same_slice w.names x.names keep n; frames = record { size = p.size ∙ q.size; past = p.past ∙ q.past; rest = p.rest ∙ q.rest; reference = p.reference ∙ q.reference }; form = g; indentation = i })
 
     go : (k : ℕ) → x.frames.used ≡ k → 0 < k → Beyond w v
     go zero e h = absurd (omega (arith, h))

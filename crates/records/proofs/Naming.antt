@@ -3,7 +3,7 @@ use Rattle.std.proofs.Common.{◌≡◌, ℕ, ◌+◌, ◌<◌, Bool, true, fals
 use Rattle.std.proofs.lemmas.Bool.{not_from_true, and_left, and_right}
 use Rattle.refusal.specs.declared.Refusal.{Refusal}
 use Rattle.xml.specs.Names.{name_fault}
-use Rattle.model.specs.declared.place.Place.TheVariants.{Element, Content, TextItem}
+use Rattle.model.specs.declared.place.Place.TheVariants.{Element, Content, Simple, TextItem}
 use Rattle.model.specs.Strings.{utf8}
 use Rattle.model.specs.Calls.{call_value, Value, val_wrapped, val_variant_row, is_text_name}
 use Rattle.model.specs.Model.{Level, Row, named_row, Outer, element, content, simple, words, inside, stack, flag}
@@ -16,8 +16,8 @@ use Rattle.engine.specs.Memory.{Mem, Safe, pushed, placed, name_put, top_frame}
 use Rattle.engine.specs.Lays.{Lays, Beyond, setting, Told, Does}
 use Rattle.engine.specs.Opening.{FrameFree, Named, Awaits}
 use Rattle.engine.proofs.Begins.{lays_placed, same_frame, holds_name, lays_element, Names, names_clear, names_fit, named_told, awaits_told, unframed_told}
-use Rattle.engine.proofs.Fronts.{front_length, begins_self}
-use Rattle.engine.proofs.Telling.{Clear, told_ok, depth_is_free, sink_unasked}
+use Rattle.engine.proofs.Fronts.{front_length, begins_self, past_same}
+use Rattle.engine.proofs.Telling.{Clear, told_small, told_ok, depth_is_free, sink_unasked}
 use Rattle.engine.proofs.Spots.{on_content}
 use Rattle.engine.proofs.Tops.{top_flag}
 use Rattle.nests.specs.Frames.{Pushes}
@@ -74,6 +74,18 @@ module _ (room : ℕ) (w : Mem) (n : List ℕ) (p : Bool) (safe : Safe w) (at : 
       pushes_told room (call_value c) (inside (content p) rs l ls) w v r list_frame list_frame (TextItem false) (TextItem false)
       (record { clear = announced_text c n p w a u rs l ls t q; brought = no_name c n p w a u rs l ls t; takes = refl; handed = refl }) safe z.holds refl refl
       (λ free. subst (λ x. Lays x (placed (TextItem false) (pushed list_frame w))) (sym (row_goes n p w rs l ls true t)) (lays_placed (inside (words false) rs l ls) (TextItem false) (pushed list_frame w) refl (holds_list (content p) rs l ls w refl refl free z.holds))) y)
+
+  -- a text, whose bytes come next
+  pub wrapped_text : is_text_name n ≡ true → p ≡ true → Does (call_value (val_wrapped n)) room (Ok tt) w (placed Simple w)
+  wrapped_text t q m lay = on_content (λ x. Told (verdict (setting w) room (call_value (val_wrapped n)) x) (Ok tt) w (placed Simple w)) w p m lay at (λ rs l ls z.
+      let c = val_wrapped n in
+      let a = wrapped_announces n in
+      let h = z.holds in
+      let goes : next w.form (call_value c) (inside (content p) rs l ls) ≡ inside simple rs l ls = ap (λ b. or_stay (inside (content p) rs l ls) (moved_if rs l ls (Some (cond b (on simple l.body) (on (element (stack rs l) n) l.body))))) t in
+      told_small w room (call_value c) (inside (content p) rs l ls) (placed Simple w) (announced_text c n p w a u rs l ls t q)
+      (record { brought = no_name c n p w a u rs l ls t; takes = refl; handed = refl }) safe h
+      (subst (λ x. Lays x (placed Simple w)) (sym goes) (lays_placed (inside simple rs l ls) Simple w refl (record { stage = h.stage; names = h.names; frames = h.frames; records = h.records; wordy = h.wordy; fit = h.fit })))
+      (record { stage = past_same w.stage; names = past_same w.names; frames = past_same w.frames; form = refl; indentation = refl }))
 
   module _ (t : is_text_name n ≡ false) where
     -- an element that is still to come
