@@ -42,7 +42,6 @@ fn serve<R: EscapeRule, S: Sink>(
 ) -> (Answer, Option<Ticket>)
     ensures serves { (c : meant.Call) → CallIs R.chooses call.now c → Serves c result.0 (mem writer.old.core) (mem writer.new.core) (S.held sink.old) (S.room sink.old) (S.held sink.new) (S.room sink.new) }
     ensures ticket { (c : meant.Call) → CallIs R.chooses call.now c → is_some result.1 ≡ holds_on c (answered result.0) (is_some held) }
-    ensures rest { writer.new.rest ≡ writer.old.rest }
 {
     match call {
         Call::Open(name) => match writer.open(name) {
@@ -72,7 +71,6 @@ fn serve_all<R: EscapeRule, S: Sink>(
     requires { length answers.old ≡ length calls.now }
     ensures ran { (cs : List meant.Call) → CallsAre R.chooses calls.now cs → (m : State) → Lays m (mem writer.old.core) → Ran cs (mem writer.old.core) (mem writer.new.core) (S.held sink.old) (S.room sink.old) (S.held sink.new) (S.room sink.new) (all_answered answers.new) m }
     ensures ticket { (cs : List meant.Call) → CallsAre R.chooses calls.now cs → is_some result ≡ holds_after cs (all_answered answers.new) (is_some held) }
-    ensures rest { writer.new.rest ≡ writer.old.rest }
 {
     let mut held = held;
     for (i, call) in calls.iter().enumerate() {
@@ -102,7 +100,6 @@ impl Writer<'_> {
         ensures meant { (cs : List meant.Call) × CallsAre R.chooses calls.now cs }
         ensures ticket { MatchResult result (λ x. (cs : List meant.Call) → CallsAre R.chooses calls.now cs → is_some x.1 ≡ holds_after cs (all_answered x.0.items) (is_some held)) (λ left. is_some left ≡ is_some held) }
         ensures replayed { MatchResult result (λ x. (cs : List meant.Call) → CallsAre R.chooses calls.now cs → Replayed cs (mem self.old.core) (mem self.new.core) (S.held sink.old) (S.room sink.old) (S.held sink.new) (S.room sink.new) (all_answered x.0.items)) (λ _. (mem self.new.core ≡ mem self.old.core) × (sink.new ≡ sink.old)) }
-        ensures rest { self.new.rest ≡ self.old.rest }
     {
         let Ok(mut answers) = vec![in heap; Ok(()); calls.len()] else {
             return Err(held);

@@ -1,4 +1,4 @@
-use Rattle.std.proofs.Common.{refl, ◌∙◌, arith}
+use Rattle.std.proofs.Common.{arith}
 use Rattle.std.proofs.lemmas.List.{length-set}
 use Rattle.engine.specs.Memory.{mem}
 use Rattle.std.specs.Option.{is_some}
@@ -7,7 +7,7 @@ use Rattle.writer.proofs.Running.{ran_from, one_more, all_of_them}
 use Rattle.writer.proofs.replay.serve_all.Goals as goal
 
 pub loop-i-init : goal.loop-i-init
-loop-i-init g c = (c.requires, ran_from g.R.EscapeRule.chooses (mem c.args.writer.now.core) (g.S.Sink.held c.args.sink.now) (g.S.Sink.room c.args.sink.now), holding_none g.R.EscapeRule.chooses (is_some c.args.held), refl)
+loop-i-init g c = (c.requires, ran_from g.R.EscapeRule.chooses (mem c.args.writer.now.core) (g.S.Sink.held c.args.sink.now) (g.S.Sink.room c.args.sink.now), holding_none g.R.EscapeRule.chooses (is_some c.args.held))
 
 pub loop-i-preserved : goal.loop-i-preserved
 loop-i-preserved g c =
@@ -22,7 +22,6 @@ loop-i-preserved g c =
           c.loop-i-test.true (omega (arith, c.loop-i-test.true, l.invariant.0)) c.index-calls-i.is l.invariant.1 c.serve-answer.ensures.serves,
       holding_more g.R.EscapeRule.chooses c.args.calls.now (is_some c.args.held) l.i c.index-calls-i.result l.answers c.serve-answer.result.0 (is_some l.held) (is_some c.serve-answer.result.1)
           c.loop-i-test.true (omega (arith, c.loop-i-test.true, l.invariant.0)) c.index-calls-i.is l.invariant.2 c.serve-answer.ensures.ticket,
-      c.serve-answer.ensures.rest ∙ l.invariant.3,
     )
 
 pub returns : goal.returns
@@ -32,5 +31,4 @@ returns g c =
     record {
       ran = all_of_them g.R.EscapeRule.chooses c.args.calls.now (mem c.args.writer.now.core) (g.S.Sink.held sink) (g.S.Sink.room sink) l.i l.answers (mem l.writer.core) (g.S.Sink.held l.sink) (g.S.Sink.room l.sink) c.loop-i-test.false l.invariant.0 l.invariant.1;
       ticket = holding_all g.R.EscapeRule.chooses c.args.calls.now (is_some c.args.held) l.i l.answers (is_some l.held) c.loop-i-test.false l.invariant.0 l.invariant.2;
-      rest = l.invariant.3;
     }

@@ -9,7 +9,7 @@ use Rattle.writer.proofs.Replaying.{replayed}
 use Rattle.writer.proofs.writer.Writer.replay.Goals as goal
 
 pub returns-in_default : goal.returns-in_default
-returns-in_default g c = record { meant = calls_meant g.R.EscapeRule.chooses g.met.R.EscapeRule.within g.met.R.EscapeRule.enough c.args.calls.now; ticket = refl; replayed = (refl, refl); rest = refl }
+returns-in_default g c = record { meant = calls_meant g.R.EscapeRule.chooses g.met.R.EscapeRule.within g.met.R.EscapeRule.enough c.args.calls.now; ticket = refl; replayed = (refl, refl) }
 
 pub returns : goal.returns
 returns g c =
@@ -27,5 +27,4 @@ returns g c =
       meant = calls_meant g.R.EscapeRule.chooses g.met.R.EscapeRule.within g.met.R.EscapeRule.enough c.args.calls.now;
       ticket = λ cs are. subst (λ z. is_some c.serve_all-held.result ≡ holds_after cs (all_answered z) (is_some c.args.held)) (sym kept) (c.serve_all-held.ensures.ticket cs are);
       replayed = λ cs are. subst (λ z. Replayed cs w v bs k bs' k' (all_answered z)) (sym kept) (replayed cs w v bs k bs' k' (all_answered stored) c.args.self.now.sound (c.serve_all-held.ensures.ran cs are));
-      rest = c.serve_all-held.ensures.rest;
     }
