@@ -1,4 +1,5 @@
 pub mod Starting
 pub mod Spelled
 pub mod Served
+pub mod Handed
 pub mod Replayed

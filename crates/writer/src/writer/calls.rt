@@ -1,6 +1,7 @@
 // The calls on a writer. Each is answered by the first row of the table of refusals that applies, and refused it changes
 // nothing; else it is accepted, and the memory holds the model that the call leads to. The place alone decides what is
-// allowed, so no call has a precondition. None touches what the writer is lent beyond what it uses (`rest`).
+// allowed, so no call has a precondition. Each leaves the writer the very slices that it was lent, and what it does not use of
+// them as it was (`Past`, engine/specs/Lays.antt).
 ghost use Rattle.std.specs.Prelude.{◌≡◌, ℕ, Result};
 ghost use Rattle.refusal.specs.declared.Refusal.{Refusal};
 ghost use Rattle.model.specs.Calls as meant;
@@ -10,6 +11,7 @@ ghost use Rattle.engine.specs.Memory.{mem};
 ghost use Rattle.engine.specs.Lays.{Does};
 ghost use Rattle.places.specs.Values.{ValueIs};
 ghost use Rattle.writer.specs.Served.{Serves, unit_of, refusal_of};
+ghost use Rattle.writer.specs.Handed.{Handed};
 
 use crate::sending::send;
 use crate::ticket::{Ticket, spend};
@@ -23,7 +25,6 @@ impl Writer<'_> {
     // A value that brings no rule. Each kind has a call of its own below, as a user names it.
     fn plain(&mut self, value: Value<'_, QuoteLevel>) -> Result<(), Refusal>
         ensures does { (room : ℕ) (v : meant.Value) → ValueIs level_chooses value.entry v → Does (call_value v) room result (mem self.old.core) (mem self.new.core) }
-        ensures rest { self.new.rest ≡ self.old.rest }
     {
         self.value(&value)
     }
@@ -31,7 +32,6 @@ impl Writer<'_> {
     // Drops the record, wherever it stands.
     pub(crate) fn drop_record(&mut self) -> Result<(), Refusal>
         ensures does { (room : ℕ) → Does call_abandon room result (mem self.old.core) (mem self.new.core) }
-        ensures rest { self.new.rest ≡ self.old.rest }
     {
         rows::abandon(&mut self.core)
     }
@@ -39,7 +39,7 @@ impl Writer<'_> {
     // Hands the record to the sink.
     pub(crate) fn send_record<S: Sink>(&mut self, sink: &mut S) -> Result<(), Refusal>
         ensures serves { Serves call_finish result (mem self.old.core) (mem self.new.core) (S.held sink.old) (S.room sink.old) (S.held sink.new) (S.room sink.new) }
-        ensures rest { self.new.rest ≡ self.old.rest }
+        ensures handed { Handed S.leaves result (mem self.old.core) sink.old sink.new }
     {
         send(&mut self.core, sink)
     }
@@ -47,7 +47,6 @@ impl Writer<'_> {
     /// Opens a record of this name, the root. Its ticket is owed to `finish` or `abandon`.
     pub fn open(&mut self, name: &[u8]) -> Result<Ticket, Refusal>
         ensures does { (room : ℕ) → Does (call_open name.now) room (unit_of result) (mem self.old.core) (mem self.new.core) }
-        ensures rest { self.new.rest ≡ self.old.rest }
     {
         begin(&mut self.core, name)?;
         Ok(Ticket::new())
@@ -57,7 +56,6 @@ impl Writer<'_> {
     /// an element.
     pub fn field(&mut self, key: &[u8]) -> Result<(), Refusal>
         ensures does { (room : ℕ) → Does (call_field key.now) room result (mem self.old.core) (mem self.new.core) }
-        ensures rest { self.new.rest ≡ self.old.rest }
     {
         begin_field(&mut self.core, key)
     }
@@ -65,7 +63,6 @@ impl Writer<'_> {
     /// Gives a value of any kind.
     pub fn value<R: EscapeRule>(&mut self, value: &Value<'_, R>) -> Result<(), Refusal>
         ensures does { (room : ℕ) (v : meant.Value) → ValueIs R.chooses value.now v → Does (call_value v) room result (mem self.old.core) (mem self.new.core) }
-        ensures rest { self.new.rest ≡ self.old.rest }
     {
         take_value(&mut self.core, value)
     }
@@ -73,7 +70,6 @@ impl Writer<'_> {
     /// Ends the innermost record, row or list.
     pub fn end(&mut self) -> Result<(), Refusal>
         ensures does { (room : ℕ) → Does call_end room result (mem self.old.core) (mem self.new.core) }
-        ensures rest { self.new.rest ≡ self.old.rest }
     {
         end_at(&mut self.core)
     }
@@ -81,7 +77,7 @@ impl Writer<'_> {
     /// Hands the complete record to the sink, whole, and leaves the writer idle. A refusal gives the ticket back.
     pub fn finish<S: Sink>(&mut self, ticket: Ticket, sink: &mut S) -> Result<(), (Refusal, Ticket)>
         ensures serves { Serves call_finish (refusal_of result) (mem self.old.core) (mem self.new.core) (S.held sink.old) (S.room sink.old) (S.held sink.new) (S.room sink.new) }
-        ensures rest { self.new.rest ≡ self.old.rest }
+        ensures handed { Handed S.leaves (refusal_of result) (mem self.old.core) sink.old sink.new }
     {
         ticket.spent_on(self.send_record(sink))
     }
@@ -89,7 +85,6 @@ impl Writer<'_> {
     /// Drops the record, wherever it stands, and leaves the writer idle. A refusal gives the ticket back.
     pub fn abandon(&mut self, ticket: Ticket) -> Result<(), (Refusal, Ticket)>
         ensures does { (room : ℕ) → Does call_abandon room (refusal_of result) (mem self.old.core) (mem self.new.core) }
-        ensures rest { self.new.rest ≡ self.old.rest }
     {
         ticket.spent_on(self.drop_record())
     }
@@ -97,7 +92,6 @@ impl Writer<'_> {
     /// Gives a text, escaped by this rule.
     pub fn text<R: EscapeRule + Drop>(&mut self, text: &[u8], rule: R) -> Result<(), Refusal>
         ensures does { (room : ℕ) (ρ : Rule) → ρ.chooses ≡ R.chooses rule → Does (call_value (val_text ρ text.now)) room result (mem self.old.core) (mem self.new.core) }
-        ensures rest { self.new.rest ≡ self.old.rest }
     {
         self.value(&Value::Text(text, rule))
     }
@@ -105,7 +99,6 @@ impl Writer<'_> {
     /// Gives the missing value.
     pub fn none(&mut self) -> Result<(), Refusal>
         ensures does { (room : ℕ) → Does (call_value val_none) room result (mem self.old.core) (mem self.new.core) }
-        ensures rest { self.new.rest ≡ self.old.rest }
     {
         self.plain(Value::Nothing)
     }
@@ -113,7 +106,6 @@ impl Writer<'_> {
     /// Gives a variant without content, by its name; where that is written as a text, it is escaped by this rule.
     pub fn variant<R: EscapeRule + Drop>(&mut self, name: &[u8], rule: R) -> Result<(), Refusal>
         ensures does { (room : ℕ) (ρ : Rule) → ρ.chooses ≡ R.chooses rule → Does (call_value (val_variant ρ name.now)) room result (mem self.old.core) (mem self.new.core) }
-        ensures rest { self.new.rest ≡ self.old.rest }
     {
         self.value(&Value::Variant(name, rule))
     }
@@ -121,7 +113,6 @@ impl Writer<'_> {
     /// Begins a variant around one value, which comes next.
     pub fn wrapped(&mut self, name: &[u8]) -> Result<(), Refusal>
         ensures does { (room : ℕ) → Does (call_value (val_wrapped name.now)) room result (mem self.old.core) (mem self.new.core) }
-        ensures rest { self.new.rest ≡ self.old.rest }
     {
         self.plain(Value::Wrapped(name))
     }
@@ -129,7 +120,6 @@ impl Writer<'_> {
     /// Begins a row, up to its end.
     pub fn row(&mut self) -> Result<(), Refusal>
         ensures does { (room : ℕ) → Does (call_value val_row) room result (mem self.old.core) (mem self.new.core) }
-        ensures rest { self.new.rest ≡ self.old.rest }
     {
         self.plain(Value::Row)
     }
@@ -137,7 +127,6 @@ impl Writer<'_> {
     /// Begins a variant that is a row, up to its end.
     pub fn variant_row(&mut self, name: &[u8]) -> Result<(), Refusal>
         ensures does { (room : ℕ) → Does (call_value (val_variant_row name.now)) room result (mem self.old.core) (mem self.new.core) }
-        ensures rest { self.new.rest ≡ self.old.rest }
     {
         self.plain(Value::VariantRow(name))
     }
@@ -145,7 +134,6 @@ impl Writer<'_> {
     /// Begins a record of this name, up to its end.
     pub fn record(&mut self, name: &[u8]) -> Result<(), Refusal>
         ensures does { (room : ℕ) → Does (call_value (val_record name.now)) room result (mem self.old.core) (mem self.new.core) }
-        ensures rest { self.new.rest ≡ self.old.rest }
     {
         self.plain(Value::Record(name))
     }
@@ -153,7 +141,6 @@ impl Writer<'_> {
     /// Begins a variant that is a record, up to its end.
     pub fn variant_record(&mut self, name: &[u8]) -> Result<(), Refusal>
         ensures does { (room : ℕ) → Does (call_value (val_variant_record name.now)) room result (mem self.old.core) (mem self.new.core) }
-        ensures rest { self.new.rest ≡ self.old.rest }
     {
         self.plain(Value::VariantRecord(name))
     }
@@ -162,7 +149,6 @@ impl Writer<'_> {
     /// Ends the work with the writer: gives up the record that may be open, with its ticket, and leaves the writer idle.
     pub fn close(&mut self, held: Option<Ticket>)
         ensures does { (room : ℕ) → (r : Result (Unit {0}) Refusal) × Does call_abandon room r (mem self.old.core) (mem self.new.core) }
-        ensures rest { self.new.rest ≡ self.old.rest }
     {
         let _ = self.drop_record();
         spend(held);
