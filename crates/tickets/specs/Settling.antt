@@ -1,5 +1,5 @@
 -- What is done with the record: the calls of its fields, and how it ends. Assumes nothing.
-use Rattle.std.specs.Prelude.{◌≡◌, ◌⊎◌, ℕ, Bool, true, false, List, [], ◌∷◌, codes, IsSome, IsNone, Option, Ok, Err, Result}
+use Rattle.std.specs.Prelude.{◌≡◌, ◌⊎◌, ℕ, List, [], ◌∷◌, codes, Ok, Err, Result}
 use Rattle.refusal.specs.declared.Refusal.{Refusal}
 use Rattle.xml.specs.declared.escape.QuoteLevel.TheVariants.{Partial}
 use Rattle.reader.specs.Trees.{Bytes}
@@ -26,12 +26,16 @@ fields trail =
     ∷ call_end
     ∷ []
 
--- a refusal gives the ticket back
-abbrev pub GivesBack : {T : Type 0} → Result (Unit {0}) Refusal → Option T → Type 0
-GivesBack (Ok done) left = IsNone left
-GivesBack (Err e) left = IsSome left
+-- a record that is refused is dropped, and the refusal is the answer
+abbrev pub GivesUp : Refusal → Result (Unit {0}) Refusal → Mem → Mem → Type 0
+GivesUp e r w v = (r ≡ Err e) × ((room : ℕ) → (q : Result (Unit {0}) Refusal) × Does call_abandon room q w v)
 
--- a whole record is handed to the sink, and any other is dropped, which leaves the sink alone; a refusal gives the ticket back
-abbrev pub Settles : {T : Type 0} → Bool → Option T → Mem → Mem → Bytes → ℕ → Bytes → ℕ → Type 0
-Settles true left w v bs k bs' k' = (r : Result (Unit {0}) Refusal) × GivesBack r left × Serves call_finish r w v bs k bs' k'
-Settles false left w v bs k bs' k' = (r : Result (Unit {0}) Refusal) × GivesBack r left × ((room : ℕ) → Does call_abandon room r w v) × (bs' ≡ bs) × (k' ≡ k)
+-- a record is handed to the sink, and dropped where the sink refuses it
+abbrev pub HandsIn : Result (Unit {0}) Refusal → Mem → Mem → Bytes → ℕ → Bytes → ℕ → Type 0
+HandsIn (Ok done) w v bs k bs' k' = Serves call_finish (Ok done) w v bs k bs' k'
+HandsIn (Err e) w v bs k bs' k' = (u : Mem) × Serves call_finish (Err e) w u bs k bs' k' × GivesUp e (Err e) u v
+
+-- a whole record is handed in, and one that was refused a field is dropped, which leaves the sink alone
+abbrev pub Settles : Result (Unit {0}) Refusal → Result (Unit {0}) Refusal → Mem → Mem → Bytes → ℕ → Bytes → ℕ → Type 0
+Settles (Ok filled) r w v bs k bs' k' = HandsIn r w v bs k bs' k'
+Settles (Err e) r w v bs k bs' k' = GivesUp e r w v × (bs' ≡ bs) × (k' ≡ k)

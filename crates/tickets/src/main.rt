@@ -3,8 +3,8 @@
 #![tactic(auto)]
 
 ghost use Rattle.engine.specs.Memory.{mem};
-ghost use Rattle.writer.specs.Served.{refusal_of};
-ghost use Rattle.tickets.specs.Settling.{Makes, fields, GivesBack, Settles};
+ghost use Rattle.tickets.specs.Settling.{Makes, fields, GivesUp, HandsIn, Settles};
+ghost use Rattle.tickets.specs.Writing.{Written};
 
 use model::Frame;
 use refusal::Refusal;
@@ -27,30 +27,47 @@ fn fill(writer: &mut Writer<'_>, trail: &str) -> Result<(), Refusal>
     writer.end()
 }
 
-// The ticket that a refusal gives back.
-fn given_back(answer: Result<(), (Refusal, Ticket)>) -> Option<Ticket>
-    ensures back { GivesBack (refusal_of answer) result }
+// Drops a record that is refused, with its ticket.
+fn give_up(writer: &mut Writer<'_>, ticket: Ticket, refusal: Refusal) -> Result<(), Refusal>
+    ensures gives_up { GivesUp refusal result (mem writer.old.core) (mem writer.new.core) }
 {
-    match answer {
-        Ok(()) => None,
-        Err((_, ticket)) => Some(ticket),
+    writer.close(Some(ticket));
+    Err(refusal)
+}
+
+// Hands the record to the sink. A refusal gives the ticket back, and the record is dropped.
+fn hand_in<S: Sink>(writer: &mut Writer<'_>, sink: &mut S, ticket: Ticket) -> Result<(), Refusal>
+    ensures hands_in { HandsIn result (mem writer.old.core) (mem writer.new.core) (S.held sink.old) (S.room sink.old) (S.held sink.new) (S.room sink.new) }
+{
+    match writer.finish(ticket, sink) {
+        Ok(()) => Ok(()),
+        Err((refusal, ticket)) => give_up(writer, ticket, refusal),
     }
 }
 
-// Hands the record to the sink, or drops it where it was refused a field; a ticket that is given back is handed on.
+// Hands the record in, or drops it where it was refused a field.
 fn settle<S: Sink>(
     writer: &mut Writer<'_>,
     sink: &mut S,
     ticket: Ticket,
-    whole: bool,
-) -> Option<Ticket>
-    ensures settles { Settles whole result (mem writer.old.core) (mem writer.new.core) (S.held sink.old) (S.room sink.old) (S.held sink.new) (S.room sink.new) }
+    filled: Result<(), Refusal>,
+) -> Result<(), Refusal>
+    ensures settles { Settles filled result (mem writer.old.core) (mem writer.new.core) (S.held sink.old) (S.room sink.old) (S.held sink.new) (S.room sink.new) }
 {
-    if whole {
-        given_back(writer.finish(ticket, sink))
-    } else {
-        given_back(writer.abandon(ticket))
+    match filled {
+        Ok(()) => hand_in(writer, sink, ticket),
+        Err(refusal) => give_up(writer, ticket, refusal),
     }
+}
+
+/// Writes the record of a trail into a sink, whole or not at all: an empty sink of an idle unindented writer is then read as
+/// exactly this record, or it stays empty.
+fn write_sheet<S: Sink>(writer: &mut Writer<'_>, sink: &mut S, trail: &str) -> Result<(), Refusal>
+    ensures written { Written trail.now result (mem writer.old.core) (S.held sink.old) (S.held sink.new) }
+{
+    let ticket = writer.open(b"sheet")?;
+    let filled = fill(writer, trail);
+    settle(writer, sink, ticket, filled)
 }
 
 fn main(rt: HostRuntime) -> io::Result<()> {
@@ -64,10 +81,8 @@ fn main(rt: HostRuntime) -> io::Result<()> {
     let mut memory = [0u8; 128];
     let mut sink = BufferSink::new(&mut memory);
     let mut writer = Writer::new(style, &mut stage, &mut names, &mut frames);
-    if let Ok(ticket) = writer.open(b"sheet") {
-        let whole = fill(&mut writer, TRAIL).is_ok();
-        let left = settle(&mut writer, &mut sink, ticket, whole);
-        writer.close(left);
+    if let Err(refusal) = write_sheet(&mut writer, &mut sink, TRAIL) {
+        println!(rt; "{refusal}")?;
     }
     if let Ok(text) = well_formed(sink.held()) {
         println!(rt; "{text}")?;

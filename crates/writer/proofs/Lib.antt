@@ -4,5 +4,7 @@ pub mod Finishing
 pub mod Starting
 pub mod Meaning
 pub mod Running
-pub mod Holding
+pub mod Chaining
+pub mod Histories
 pub mod Replaying
+pub mod Stepping

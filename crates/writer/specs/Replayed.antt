@@ -1,21 +1,36 @@
--- What a run of calls on a writer and a sink leaves, and the laws of what the sink then holds. Assumes nothing.
-use Rattle.std.specs.Prelude.{◌≡◌, ℕ, true, false, List, [], ◌++◌, None, Option}
-use Rattle.style.specs.declared.indentation.Indentation.{Indentation}
+-- What a run of calls on a writer and a sink leaves: each call's own promise, one after another. Assumes nothing.
+use Rattle.std.specs.Prelude.{◌≡◌, ℕ, max, List, [], ◌∷◌, ◌++◌, length, map, drop, Option, Result}
+use Rattle.refusal.specs.declared.Refusal.{Refusal}
 use Rattle.reader.specs.Trees.{Bytes}
 use Rattle.model.specs.declared.place.Place.TheVariants.{Idle}
 use Rattle.model.specs.Calls.{Call, Answer}
-use Rattle.model.specs.Marks.{Mark, tag_byte, lead, indent, bytes_of_mark}
-use Rattle.model.specs.Model.{State, idle}
-use Rattle.model.specs.Table.{Memory}
-use Rattle.model.specs.Run.{run, answers, writer}
-use Rattle.model.specs.Fields.{Field, calls, names_attribute}
-use Rattle.model.specs.Documents.{accepted_calls, documents, layouts}
-use Rattle.model.specs.Says.{trees}
-use Rattle.std.specs.List.{AllByRecursion}
-use Rattle.model.specs.Laws.{sink_after, answers_to, Agree, Settled, ReadsExactly, BothOrders}
-use Rattle.engine.specs.Memory.{Mem}
+use Rattle.model.specs.Model.{State}
+use Rattle.model.specs.Layout.{stage, names, frames}
+use Rattle.model.specs.Table.{Setting}
+use Rattle.model.specs.Run.{Session, run, answers, after}
+use Rattle.engine.specs.Memory.{Buf, Mem}
 use Rattle.engine.specs.Lays.{Lays, setting}
-use Rattle.writer.specs.Served.{session}
+use Rattle.writer.specs.declared.call.Call.{Call as call_in_code}
+use Rattle.writer.specs.declared.replay.Step.{Step}
+use Rattle.writer.specs.Served.{session, Serves, all_answered}
+use Rattle.writer.specs.Handed.{Leaving, SinkAfter}
+use Rattle.writer.specs.Histories.{History, LawsOf}
+
+-- the calls of steps, and what stands in the places of their answers
+abbrev pub calls_of : {R : Type 0} → List (Step R) → List (call_in_code R)
+calls_of steps = map (λ s. s.call) steps
+
+abbrev pub answers_of : {R : Type 0} → List (Step R) → List (Result (Unit {0}) Refusal)
+answers_of steps = map (λ s. s.answer) steps
+
+module _ {S : Type 0} (held : S → Bytes) (room : S → ℕ) (leaves : Leaving S) where
+  -- the calls are made one after another, each with its own promise and its answer, and nothing happens between them, before the
+  -- first or behind the last: from the memory w and the sink s to v and t
+  abbrev pub Chain : List Call → List (Result (Unit {0}) Refusal) → Mem → S → Mem → S → Type 0
+  Chain [] [] w s v t = (v ≡ w) × (t ≡ s)
+  Chain [] (r ∷ rs) w s v t = ⊥
+  Chain (c ∷ cs) [] w s v t = ⊥
+  Chain (c ∷ cs) (r ∷ rs) w s v t = (u : Mem) × (x : S) × Serves c r w u (held s) (room s) (held x) (room x) × SinkAfter leaves c r w s x × Chain cs rs u x v t
 
 -- from a writer that holds the model m: the memory holds the model that the calls lead to, the sink what they hand to it, and each
 -- answer is the one that its call has in the run
@@ -27,28 +42,34 @@ pub record Ran (cs : List Call) (w v : Mem) (bs : Bytes) (k : ℕ) (bs' : Bytes)
   -- style and memory sizes stay
   pub same : setting v ≡ setting w
 
+-- the most that a run has in use, at its start or behind a call of it
+abbrev pub largest : (State → ℕ) → Setting → List Call → Session → ℕ
+largest size w [] s = size s.model
+largest size w (c ∷ cs) s = max (size s.model) (largest size w cs (after w c s))
+
+-- what lies past so much is as it was
+abbrev pub KeptPast : {A : Type 0} → ℕ → Buf A → Buf A → Type 0
+KeptPast n b c = drop n c.all ≡ drop n b.all
+
+-- what lies past the largest use of a run is as it was before the run
+pub record PastLargestKept (cs : List Call) (w v : Mem) (s : Session) : Type 0 where
+  pub stage : KeptPast (largest (λ m. length (stage w.indentation m)) (setting w) cs s) w.stage v.stage
+  pub names : KeptPast (largest (λ m. length (names m)) (setting w) cs s) w.names v.names
+  pub frames : KeptPast (largest (λ m. length (frames w.indentation m)) (setting w) cs s) w.frames v.frames
+
 -- the writer is idle and the sink is empty
 pub record New (w : Mem) (bs : Bytes) : Type 0 where
   pub place : w.place ≡ Idle
   pub empty : bs ≡ []
 
--- both are layouts of the same records, which the accepted calls alone write: each indent stands directly before a tag, straight
--- behind a tag and never behind a text, and all other bytes are equal
-pub record Alike (i j : Option Indentation) (bs cs : Bytes) (records : List (List Mark)) : Type 0 where
-  pub one : bs ≡ layouts i records
-  pub other : cs ≡ layouts j records
-  pub before_a_tag : (h : Option Indentation) (d : ℕ) → bytes_of_mark h (lead d) ≡ indent h d ++ bytes_of_mark h (tag_byte 60)
-  pub behind_a_tag : AllByRecursion Settled records
-
--- the calls cs were run on a writer and a sink: memory w and v before and after, what the sink held and its room before (bs and k)
--- and after (bs' and k'), and the answers
-pub record Replayed (cs : List Call) (w v : Mem) (bs : Bytes) (k : ℕ) (bs' : Bytes) (k' : ℕ) (rs : List Answer) : Type 0 where
-  pub ran : (m : State) → Lays m w → Ran cs w v bs k bs' k' rs m
-  -- reading back: what a sink that was empty then holds is read as exactly the trees of the records finished into it
-  pub reads_back : New w bs → w.indentation ≡ None → ReadsExactly bs' (trees cs rs)
-  -- indentation changes only the indents: any other new writer of another indentation, over any memory and any room, that answers alike
-  pub indents_alone : New w bs → (j : Option Indentation) (n : Memory) (q : ℕ) → Agree rs (answers_to (writer w.form j n) cs q) → Alike w.indentation j bs' (sink_after (writer w.form j n) cs q) (documents w.form (accepted_calls cs rs) idle)
-  -- an '@' field and the child field behind it may change places
-  pub attribute_first : New w bs → (front : List Call) (x y : Field) (rest : List Call) → cs ≡ front ++ ((calls x ++ calls y) ++ rest) → names_attribute x.key ≡ true → names_attribute y.key ≡ false → (n : Memory) (q : ℕ) → BothOrders (setting w) (writer w.form w.indentation n) k q front x y rest → bs' ≡ sink_after (writer w.form w.indentation n) (front ++ ((calls y ++ calls x) ++ rest)) q
-  -- and so may a child field and the '@' field behind it
-  pub child_first : New w bs → (front : List Call) (x y : Field) (rest : List Call) → cs ≡ front ++ ((calls y ++ calls x) ++ rest) → names_attribute x.key ≡ true → names_attribute y.key ≡ false → (n : Memory) (q : ℕ) → BothOrders (writer w.form w.indentation n) (setting w) q k front x y rest → bs' ≡ sink_after (writer w.form w.indentation n) (front ++ ((calls x ++ calls y) ++ rest)) q
+-- the calls cs were run on a writer and a sink: memory w and v and the sinks s and t before and after, and the results
+pub record Replayed {S : Type 0} (held : S → Bytes) (room : S → ℕ) (leaves : Leaving S) (cs : List Call) (rs : List (Result (Unit {0}) Refusal)) (w : Mem) (s : S) (v : Mem) (t : S) : Type 0 where
+  pub chain : Chain held room leaves cs rs w s v t
+  -- and so, from every model that the memory holds
+  pub ran : (m : State) → Lays m w → Ran cs w v (held s) (room s) (held t) (room t) (all_answered rs) m
+  pub past : (m : State) → Lays m w → PastLargestKept cs w v (session m (held s) (room s))
+  -- no calls led to a writer that is idle and a sink that is empty
+  pub begins : New w (held s) → History (setting w) [] [] (room s) w (held s) (room s)
+  -- whatever calls led to this writer and this sink, they and the calls of this run led to what is there now, and have the laws
+  pub grows : (x : Setting) (hs : List Call) (qs : List Answer) (r : ℕ) → History x hs qs r w (held s) (room s) → History x (hs ++ cs) (qs ++ all_answered rs) r v (held t) (room t)
+  pub laws : (x : Setting) (hs : List Call) (qs : List Answer) (r : ℕ) → History x hs qs r w (held s) (room s) → LawsOf x (hs ++ cs) (qs ++ all_answered rs) r (held t)

@@ -57,3 +57,12 @@ holds_on call_abandon accepted held = false
 abbrev pub holds_after : List Call → List Answer → Bool → Bool
 holds_after (c ∷ cs) (r ∷ rs) held = holds_after cs rs (holds_on c r held)
 holds_after cs rs held = held
+
+-- every call but finish leaves the sink alone
+abbrev pub HandsNothing : Call → Type 0
+HandsNothing (call_open n) = Unit {0}
+HandsNothing (call_field k) = Unit {0}
+HandsNothing (call_value v) = Unit {0}
+HandsNothing call_end = Unit {0}
+HandsNothing call_finish = ⊥
+HandsNothing call_abandon = Unit {0}
