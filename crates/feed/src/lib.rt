@@ -9,6 +9,6 @@ mod telling;
 
 pub use batch::{Batch, law_sections};
 pub use call_line::CallLine;
-pub use calling::{calls_of, law_one_call_each};
+pub use calling::{law_one_call_each, steps_of};
 pub use setup::{Setting, Setup, law_last_counts};
 pub use telling::{Counted, Told, Traced, bytes_line};

@@ -1,2 +1,3 @@
 pub mod Lines
 mod Reaching
+mod Making

@@ -1,5 +1,5 @@
 -- What becomes of a batch: its style is refused, or its calls are made, all in one run, on a new writer and a new sink. Assumes nothing.
-use Rattle.std.specs.Prelude.{◌≡◌, ℕ, false, List, [], take, replicate, vec_items, Option, Ok, Err, Result}
+use Rattle.std.specs.Prelude.{◌≡◌, ℕ, min, false, List, vec_items, Option, Ok, Err, Result}
 use Rattle.refusal.specs.declared.Refusal.{Refusal}
 use Rattle.refusal.specs.Refusals.{Refuses}
 use Rattle.style.specs.declared.style.EmptyElementHandling.{EmptyElementHandling}
@@ -12,11 +12,11 @@ use Rattle.script.specs.declared.settings.SinkChoice.{SinkChoice}
 use Rattle.script.specs.declared.settings.SinkChoice.TheVariants.{Buffer, Pages}
 use Rattle.reader.specs.Trees.{Bytes}
 use Rattle.model.specs.Calls.{Call, Answer}
-use Rattle.model.specs.Layout.{list_frame}
-use Rattle.engine.specs.Memory.{Mem}
-use Rattle.writer.specs.Starting.{starting}
+use Rattle.model.specs.Table.{Setting}
+use Rattle.model.specs.Run.{run, new, writer}
+use Rattle.model.specs.Laws.{sink_after, answers_to}
 use Rattle.writer.specs.Served.{all_answered}
-use Rattle.writer.specs.Replayed.{Replayed}
+use Rattle.writer.specs.Histories.{LawsOf}
 use Rattle.feed.specs.declared.batch.Batch.{Batch}
 use Rattle.feed.specs.declared.setup.Setup.{Setup}
 use Rattle.feed.specs.Making.{calls_made}
@@ -24,13 +24,17 @@ use Rattle.runner.specs.declared.running.Ran.{Ran as Record}
 use Rattle.runner.specs.declared.want.Want.{Want}
 use Rattle.runner.specs.declared.want.Want.TheVariants.{Writer, Sink}
 
--- a new writer over memory of these sizes
-abbrev pub new_writer : EmptyElementHandling → Option Indentation → Sizes → Mem
-new_writer form indentation sizes = starting form indentation (take 65536 (replicate sizes.stage 0)) (take 4096 (replicate sizes.names 0)) (take 64 (replicate sizes.frames list_frame))
+-- a writer of this style over memory of these sizes, of which it uses no more than a writer ever does
+abbrev pub set_up : EmptyElementHandling → Option Indentation → Sizes → Setting
+set_up form indentation sizes = writer form indentation (record { stage = min 65536 sizes.stage; names = min 4096 sizes.names; frames = min 64 sizes.frames })
 
--- the calls cs on a new writer, and on a sink that held bs and had room k before, and holds bs' and has room k' then
-abbrev pub Made : EmptyElementHandling → Option Indentation → Sizes → List Call → Bytes → ℕ → Bytes → ℕ → List Answer → Type 0
-Made form indentation sizes cs bs k bs' k' rs = (v : Mem) × Replayed cs (new_writer form indentation sizes) v bs k bs' k' rs
+-- the calls cs on the new writer x and an empty sink of room k are answered by rs, and leave a sink that holds bs and has room k';
+-- what it holds has the laws of runs
+pub record Made (x : Setting) (cs : List Call) (k : ℕ) (bs : Bytes) (k' : ℕ) (rs : List Answer) : Type 0 where
+  pub answers : rs ≡ answers_to x cs k
+  pub bytes : bs ≡ sink_after x cs k
+  pub room : k' ≡ (run x cs (new k)).room
+  pub laws : LawsOf x cs rs k bs
 
 -- the room of a new sink
 abbrev pub size_of : SinkChoice → ℕ
@@ -39,7 +43,7 @@ size_of Pages = 4096
 
 -- the calls of the batch are made, and these are the answers, and what its sink holds and has room for
 abbrev pub IsRunOf : Batch → SinkChoice → Record → Type 0
-IsRunOf b choice r = Made b.setup.style.value.empty_elements b.setup.style.value.indentation b.setup.memory.value (calls_made (vec_items b.calls)) [] (size_of choice) (vec_items r.bytes) r.room (all_answered (vec_items r.answers))
+IsRunOf b choice r = Made (set_up b.setup.style.value.empty_elements b.setup.style.value.indentation b.setup.memory.value) (calls_made (vec_items b.calls)) (size_of choice) (vec_items r.bytes) r.room (all_answered (vec_items r.answers))
 
 abbrev pub Becomes : Batch → Result Record Refusal → Type 0
 Becomes b (Err e) = (allowed b.setup.style.value.indentation ≡ false) × Refuses 10 0 e

@@ -1,5 +1,5 @@
 // Runs the calls of one writer, on memory from the heap that is free again when the run is over.
-ghost use Rattle.std.specs.Prelude.{◌≡◌, ℕ, List, take, length, IfOk, IfErr};
+ghost use Rattle.std.specs.Prelude.{◌≡◌, ℕ, List, [], take, length, IfOk, IfErr};
 ghost use Rattle.script.specs.declared.fault.Fault.TheVariants.{Memory};
 ghost use Rattle.script.specs.declared.settings.SinkChoice.TheVariants.{Buffer, Pages};
 ghost use Rattle.xml.specs.Escaping.{level_chooses};
@@ -7,19 +7,20 @@ ghost use Rattle.sink.specs.Pages.{flat};
 ghost use Rattle.model.specs.Calls as meant;
 ghost use Rattle.writer.specs.Spelled.{CallsAre};
 ghost use Rattle.writer.specs.Served.{all_answered};
+ghost use Rattle.writer.specs.Replayed.{calls_of, answers_of};
 ghost use Rattle.feed.specs.Making.{calls_made};
 ghost use Rattle.runner.specs.declared.want.Want.TheVariants as wants;
-ghost use Rattle.runner.specs.Running.{Made, IsRunOf, Becomes, WantsMemory};
+ghost use Rattle.runner.specs.Running.{set_up, Made, IsRunOf, Becomes, WantsMemory};
 
 use crate::want::Want;
-use feed::{Batch, calls_of};
+use feed::{Batch, steps_of};
 use model::Frame;
 use refusal::Refusal;
 use script::{Fault, ScriptError, SinkChoice, Sizes};
 use sink::{BufferSink, PageSink, Sink};
-use std::alloc::Global;
+use std::alloc::{AllocError, Global};
 use style::Style;
-use writer::{Answer, Call, Writer};
+use writer::{Answer, Step, Writer};
 use xml::QuoteLevel;
 
 /// The answers to a writer's calls, and what its sink holds and has room for in the end.
@@ -33,46 +34,51 @@ pub struct Ran {
 /// What became of a writer; where its style was refused, its calls were passed over.
 pub type Outcome = Result<Ran, Refusal>;
 
-// A new writer over memory of these sizes makes the calls.
+// The answers that are stored in steps.
+fn answers_of(heap: Global, steps: &[Step<'_, QuoteLevel>]) -> Result<Vec<Answer>, AllocError>
+    ensures value { IfOk result (λ answers. answers.items ≡ answers_of steps.now) }
+{
+    let mut answers = Vec::with_capacity(heap, steps.len())?;
+    for step in steps {
+        answers.push(step.answer)?;
+    }
+    Ok(answers)
+}
+
+// A new writer over memory of these sizes makes the calls, on an empty sink.
 fn run_on<S: Sink>(
     heap: Global,
     style: Style,
     sizes: Sizes,
     sink: &mut S,
-    calls: &[Call<'_, QuoteLevel>],
+    steps: Vec<Step<'_, QuoteLevel>>,
 ) -> Result<Vec<Answer>, Fault>
-    ensures made { IfOk result (λ answers. (cs : List meant.Call) → CallsAre level_chooses calls.now cs → Made style.empty_elements style.indentation sizes cs (S.held sink.old) (S.room sink.old) (S.held sink.new) (S.room sink.new) (all_answered answers.items)) }
+    ensures made { IfOk result (λ answers. S.held sink.old ≡ [] → (cs : List meant.Call) → CallsAre level_chooses (calls_of steps.entry.items) cs → Made (set_up style.empty_elements style.indentation sizes) cs (S.room sink.old) (S.held sink.new) (S.room sink.new) (all_answered answers.items)) }
     ensures err { IfErr result (λ fault. fault ≡ Memory) }
 {
+    let mut steps = steps;
     let mut stage = vec![in heap; 0; sizes.stage]?;
     let mut names = vec![in heap; 0; sizes.names]?;
     let mut frames = vec![in heap; Frame::list(); sizes.frames]?;
     let mut writer = Writer::new(style, &mut stage, &mut names, &mut frames);
-    match writer.replay(heap, None, sink, calls) {
-        Ok((answers, ticket)) => {
-            writer.close(ticket);
-            Ok(answers)
-        }
-        Err(ticket) => {
-            writer.close(ticket);
-            Err(Fault::Memory)
-        }
-    }
+    let ticket = writer.replay(None, sink, &mut steps);
+    writer.close(ticket);
+    Ok(answers_of(heap, &steps)?)
 }
 
-// The batch on a sink: what its calls are answered.
+// The batch on a sink that is empty: what its calls are answered.
 fn answers_on<S: Sink>(
     heap: Global,
     style: Style,
     batch: &Batch,
     sink: &mut S,
 ) -> Result<Vec<Answer>, Want>
-    ensures made { IfOk result (λ answers. Made style.empty_elements style.indentation batch.now.setup.memory.value (calls_made batch.now.calls.items) (S.held sink.old) (S.room sink.old) (S.held sink.new) (S.room sink.new) (all_answered answers.items)) }
+    ensures made { IfOk result (λ answers. S.held sink.old ≡ [] → Made (set_up style.empty_elements style.indentation batch.now.setup.memory.value) (calls_made batch.now.calls.items) (S.room sink.old) (S.held sink.new) (S.room sink.new) (all_answered answers.items)) }
     ensures err { IfErr result (λ want. want ≡ wants.Writer) }
 {
     let sizes = batch.setup.memory.value;
-    let calls = calls_of(heap, &batch.calls).map_err(|_| Want::Writer)?;
-    run_on(heap, style, sizes, sink, &calls).map_err(|_| Want::Writer)
+    let steps = steps_of(heap, &batch.calls).map_err(|_| Want::Writer)?;
+    run_on(heap, style, sizes, sink, steps).map_err(|_| Want::Writer)
 }
 
 // Memory for a sink.
