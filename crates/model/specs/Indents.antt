@@ -18,8 +18,8 @@ pub data LessAt : ℕ → Mark → Type 0 where
   plain : {d : ℕ} → LessAt d (tag_byte 60)
 
 mutual
-  -- production 39, element ::= EmptyElemTag | STag content ETag, where d elements are open around it. No `<` stands in a name or in
-  -- attributes, so marks are such an element in one way only, and each indent in it has one depth
+  -- production 39, element ::= EmptyElemTag | STag content ETag, where d elements are open around it. A name and attributes hold no
+  -- `<`, and neither begins or ends with a `/`, so each tag, its kind and what stands around it are told by the marks alone
   pub data ElementAt : ℕ → List Mark → Type 0 where
     -- production 44, EmptyElemTag
     empty_tag : {d : ℕ} {m : Mark} {n a : Bytes} {at : Attributes} → LessAt d m → Name n → Attribs a at → ElementAt d (m ∷ tagged (n ++ (a ++ codes "/>")))
