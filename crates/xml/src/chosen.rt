@@ -1,6 +1,6 @@
 // The bytes that a rule replaces for one use. The rule is asked once for each byte that has a replacement, and not at each byte
 // of a value: a value is walked at the cost of one bit's test a byte.
-ghost use Rattle.std.specs.Prelude.{◌≡◌, ℕ, ◌+◌, ◌-◌, ◌^◌, ◌<◌, ◌≤◌, true, false, length, min, take, slice_index_or};
+ghost use Rattle.std.specs.Prelude.{◌≡◌, ℕ, ◌+◌, ◌-◌, ◌^◌, ◌<◌, ◌≤◌, Bool, true, false, length, min, take, slice_index_or};
 ghost use Rattle.memory.specs.Laid.{laid};
 ghost use Rattle.xml.specs.Escaping.{nine, replacement, escaped};
 ghost use Rattle.xml.specs.Marked.{marked};
@@ -11,8 +11,15 @@ use memory::lay;
 // The bytes that have a replacement; all are below 64.
 const NINE: [u8; 9] = *b"<>'&\"\t\n\r ";
 
-/// How many bytes stand for one at most.
-pub const LONGEST: usize = 6;
+// How many bytes stand for one at most.
+const LONGEST: usize = 6;
+
+/// No fewer bytes than a value has once it is escaped by any rule, told without a walk over it.
+pub fn most(value: &[u8]) -> usize
+    ensures value { (chosen : ℕ → Bool) → min (length (escaped chosen value.now)) (2 ^ 64 - 1) ≤ result }
+{
+    value.len().saturating_mul(LONGEST)
+}
 
 /// A set of bytes that have a replacement, one bit for each.
 #[derive(Clone, Copy, PartialEq, Eq, Debug)]

@@ -5,7 +5,7 @@ ghost use Rattle.xml.specs.Escaping.{nine, asked, added, level_chooses, escaped}
 ghost use Rattle.xml.specs.Back.{Writes, Escapes};
 ghost use Rattle.xml.specs.Levels.{level_within, level_enough};
 
-use crate::chosen::{Chosen, LONGEST};
+use crate::chosen::{Chosen, most};
 use memory::Piece;
 use refusal::Refusal;
 
@@ -116,35 +116,36 @@ impl<R: EscapeRule> Piece for Escaped<'_, R> {
     ghost bytes = { λ e. escaped (R.chooses e.rule.now e.target) e.value.now };
 
     fn size(&self) -> usize {
-        Chosen::by(self.rule, self.target).size_of(self.value)
+        escaped_len(self.value, self.rule, self.target)
     }
 
     fn bound(&self) -> usize {
-        self.value.len().saturating_mul(LONGEST)
+        most(self.value)
     }
 
     #[inline(always)]
     fn lay(&self, out: &mut [u8], at: usize) -> usize {
-        Chosen::by(self.rule, self.target).lay(self.value, out, at)
+        match escape_into(out, at, self.value, self.rule, self.target) {
+            Ok(end) => end,
+            // Whoever lays a piece has seen that it fits.
+            Err(_) => unreachable!(),
+        }
     }
 }
 
-// Value, rule and use come one by one in these two, as a caller names them; below here they are one `Escaped`.
+// Value, rule and use come one by one in these two, as a caller names them; a piece that holds them is an `Escaped`.
 /// How many bytes `escape_into` writes for a value; the largest `usize` where it would be more than that.
 pub fn escaped_len<R: EscapeRule>(value: &[u8], rule: &R, target: Use) -> usize
     ensures value { result ≡ min (length (escaped (R.chooses rule.now target) value.now)) (2 ^ 64 - 1) }
 {
-    let escaped = Escaped {
-        value,
-        rule,
-        target,
-    };
-    escaped.size()
+    Chosen::by(rule, target).size_of(value)
 }
 
 /// Writes a value for a use into `out` from `at` on, each byte that the rule chooses replaced, and answers where it ends.
 /// Where it would end past `out`, nothing is written, under refusal 8.
 /// What stands there then is read back as the value: in a text, in an attribute or as one item of a list, as the use says.
+// Inlined wherever a piece is laid, where it is known that the value fits.
+#[inline(always)]
 pub fn escape_into<R: EscapeRule>(
     out: &mut [u8],
     at: usize,
@@ -154,13 +155,12 @@ pub fn escape_into<R: EscapeRule>(
 ) -> Result<usize, Refusal>
     ensures escapes { Escapes target (R.chooses rule.now target) value.now at result out.old out.new }
 {
-    let escaped = Escaped {
-        value,
-        rule,
-        target,
-    };
-    if out.len() < at.saturating_add(escaped.size()) {
+    let chosen = Chosen::by(rule, target);
+    // The value is measured only where its bound does not fit.
+    if out.len() < at.saturating_add(most(value))
+        && out.len() < at.saturating_add(chosen.size_of(value))
+    {
         return Err(Refusal::Stage);
     }
-    Ok(escaped.lay(out, at))
+    Ok(chosen.lay(value, out, at))
 }
