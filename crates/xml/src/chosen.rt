@@ -69,6 +69,8 @@ impl Chosen {
     }
 
     /// How many bytes a value has once they are replaced; the largest `usize` where they are more than that.
+    // Not inlined: few values are measured, and what lays one stays small.
+    #[inline(never)]
     pub fn size_of(self, value: &[u8]) -> usize
         ensures value { result ≡ min (length (escaped (marked self.bits) value.now)) (2 ^ 64 - 1) }
     {

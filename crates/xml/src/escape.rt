@@ -155,12 +155,15 @@ pub fn escape_into<R: EscapeRule>(
 ) -> Result<usize, Refusal>
     ensures escapes { Escapes target (R.chooses rule.now target) value.now at result out.old out.new }
 {
-    let chosen = Chosen::by(rule, target);
-    // The value is measured only where its bound does not fit.
-    if out.len() < at.saturating_add(most(value))
-        && out.len() < at.saturating_add(chosen.size_of(value))
-    {
+    if out.len() < at {
         return Err(Refusal::Stage);
     }
-    Ok(chosen.lay(value, out, at))
+    let room = out.len() - at;
+    let chosen = Chosen::by(rule, target);
+    // The value is measured only where its bound does not fit.
+    if most(value) <= room || chosen.size_of(value) <= room {
+        Ok(chosen.lay(value, out, at))
+    } else {
+        Err(Refusal::Stage)
+    }
 }
