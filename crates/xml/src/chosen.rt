@@ -1,6 +1,6 @@
 // The bytes that a rule replaces for one use. The rule is asked once for each byte that has a replacement, and not at each byte
 // of a value: a value is walked at the cost of one bit's test a byte.
-ghost use Rattle.std.specs.Prelude.{◌≡◌, ℕ, ◌+◌, ◌-◌, ◌^◌, ◌<◌, ◌≤◌, Bool, true, false, length, min, take, slice_index_or};
+ghost use Rattle.std.specs.Prelude.{◌≡◌, ℕ, ◌+◌, ◌-◌, ◌^◌, ◌<◌, ◌≤◌, Bool, true, false, length, min, take, slice_index_or, nat_le};
 ghost use Rattle.memory.specs.Laid.{laid};
 ghost use Rattle.xml.specs.Escaping.{nine, replacement, escaped};
 ghost use Rattle.xml.specs.Marked.{marked};
@@ -69,8 +69,6 @@ impl Chosen {
     }
 
     /// How many bytes a value has once they are replaced; the largest `usize` where they are more than that.
-    // Not inlined: few values are measured, and what lays one stays small.
-    #[inline(never)]
     pub fn size_of(self, value: &[u8]) -> usize
         ensures value { result ≡ min (length (escaped (marked self.bits) value.now)) (2 ^ 64 - 1) }
     {
@@ -81,6 +79,16 @@ impl Chosen {
             }
         }
         len
+    }
+
+    /// Whether a value has no more than so many bytes once they are replaced, told by a walk.
+    // Apart from where a value is laid: there its bound nearly always fits.
+    #[cold]
+    #[inline(never)]
+    pub fn fits(self, value: &[u8], room: usize) -> bool
+        ensures value { result ≡ nat_le (min (length (escaped (marked self.bits) value.now)) (2 ^ 64 - 1)) room }
+    {
+        self.size_of(value) <= room
     }
 
     // Whether this byte, or one that differs from it in its two highest bits alone, is replaced.

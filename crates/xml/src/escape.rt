@@ -161,7 +161,7 @@ pub fn escape_into<R: EscapeRule>(
     let room = out.len() - at;
     let chosen = Chosen::by(rule, target);
     // The value is measured only where its bound does not fit.
-    if most(value) <= room || chosen.size_of(value) <= room {
+    if most(value) <= room || chosen.fits(value, room) {
         Ok(chosen.lay(value, out, at))
     } else {
         Err(Refusal::Stage)

@@ -3,8 +3,8 @@ use Rattle.xml.specs.Escaping.{Lawful}
 use Rattle.xml.proofs.Written.{writes}
 use Rattle.xml.proofs.escape.escape_into.Goals as goal
 
-pub returns-then-size_of-room : goal.returns-then-size_of-room
-returns-then-size_of-room g c =
+pub returns-then-fits : goal.returns-then-fits
+returns-then-fits g c =
     let rule = c.args.rule.now in
     let u = c.args.target in
     let law : Lawful u (g.R.EscapeRule.chooses rule u) = record { within = g.met.R.EscapeRule.within rule u; enough = g.met.R.EscapeRule.enough rule u } in
