@@ -1,5 +1,6 @@
 -- Histories: they begin at a new writer, grow by the promise of each call, and have the laws of runs. Assumes nothing.
 use Rattle.std.proofs.Common.{◌≡◌, ℕ, true, false, List, [], ◌∷◌, ◌++◌, length, None, Option, Result, sym, refl, ap, ◌∙◌, subst}
+use Rattle.std.specs.List.{AllByRecursion}
 use Rattle.std.specs.Borrow.{MutBor}
 use Rattle.refusal.specs.declared.Refusal.{Refusal}
 use Rattle.style.specs.declared.indentation.Indentation.{Indentation}
@@ -18,7 +19,9 @@ use Rattle.model.proofs.Tables.{run-++}
 use Rattle.model.proofs.ReadsBack.{reads_back}
 use Rattle.model.proofs.Documents.{indents_alone}
 use Rattle.model.proofs.Settled.{no_indent_after_text}
+use Rattle.model.proofs.Depths.{depth_of_indents}
 use Rattle.model.proofs.Swapping.{attributes_change_places}
+use Rattle.model.specs.Indents.{ElementAt, BytesOfIndents}
 use Rattle.engine.specs.Memory.{Mem}
 use Rattle.engine.specs.Lays.{Lays, setting, Does}
 use Rattle.writer.specs.Starting.{starting}
@@ -74,6 +77,11 @@ module _ (x : Setting) (cs : List Call) (rs : List Answer) (r : ℕ) (w : Mem) (
       λ j e. subst (λ z. ReadsExactly (sink_after (writer x.form z x.memory) cs r) (trees cs (answers_to (writer x.form z x.memory) cs r))) (sym e) (reads_back x.form x.memory r cs) in
       subst (λ z. ReadsExactly z (trees cs rs)) (sym h.held) (subst (λ z. ReadsExactly (sink_after x cs r) (trees cs z)) (sym h.told) (at x.indentation i))
 
+  deep : (bs ≡ layouts x.indentation (documents x.form (accepted_calls cs rs) idle)) × AllByRecursion (ElementAt 0) (documents x.form (accepted_calls cs rs) idle) × BytesOfIndents
+  deep =
+      subst (λ z. (z ≡ layouts x.indentation (documents x.form (accepted_calls cs rs) idle)) × AllByRecursion (ElementAt 0) (documents x.form (accepted_calls cs rs) idle) × BytesOfIndents) (sym h.held)
+      (subst (λ z. (sink_after x cs r ≡ layouts x.indentation (documents x.form (accepted_calls cs z) idle)) × AllByRecursion (ElementAt 0) (documents x.form (accepted_calls cs z) idle) × BytesOfIndents) (sym h.told) (depth_of_indents x cs r))
+
   alike : (j : Option Indentation) (n : Memory) (q : ℕ) → Agree rs (answers_to (writer x.form j n) cs q) → Alike x.indentation j bs (sink_after (writer x.form j n) cs q) (documents x.form (accepted_calls cs rs) idle)
   alike j n q agree =
       let same = indents_alone x.form x.indentation j x.memory n r q cs (subst (λ z. Agree z (answers_to (writer x.form j n) cs q)) h.told agree) in
@@ -92,4 +100,4 @@ module _ (x : Setting) (cs : List Call) (rs : List Answer) (r : ℕ) (w : Mem) (
       h.held ∙ ap (λ z. sink_after x z r) is ∙ sym (attributes_change_places x.form x.indentation n x.memory q r front a c rest names_it other both)
 
   pub laws_of : LawsOf x cs rs r bs
-  laws_of = record { reads_back = read; indents_alone = alike; attribute_first = swapped; child_first = swapped_back }
+  laws_of = record { reads_back = read; depth_of_indents = deep; indents_alone = alike; attribute_first = swapped; child_first = swapped_back }

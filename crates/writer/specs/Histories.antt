@@ -16,6 +16,7 @@ use Rattle.model.specs.Documents.{accepted_calls, documents, layouts}
 use Rattle.model.specs.Says.{trees}
 use Rattle.std.specs.List.{AllByRecursion}
 use Rattle.model.specs.Laws.{sink_after, answers_to, Agree, Settled, ReadsExactly, BothOrders}
+use Rattle.model.specs.Indents.{ElementAt, BytesOfIndents}
 use Rattle.engine.specs.Memory.{Mem}
 use Rattle.engine.specs.Lays.{Lays, setting, Does}
 use Rattle.writer.specs.Starting.{starting}
@@ -42,6 +43,9 @@ pub record Alike (i j : Option Indentation) (bs cs : Bytes) (records : List (Lis
 pub record LawsOf (x : Setting) (cs : List Call) (rs : List Answer) (r : ℕ) (bs : Bytes) : Type 0 where
   -- reading back: unindented, it is read as exactly the trees of the records finished into it
   pub reads_back : x.indentation ≡ None → ReadsExactly bs (trees cs rs)
+  -- each indent in it is the line feed and the indent byte, size times for each element that is open around its tag: it is the layout
+  -- of records, and each of them is an element around which none is open
+  pub depth_of_indents : (bs ≡ layouts x.indentation (documents x.form (accepted_calls cs rs) idle)) × AllByRecursion (ElementAt 0) (documents x.form (accepted_calls cs rs) idle) × BytesOfIndents
   -- indentation changes only the indents: any other writer of another indentation, over any memory and any room, that answers alike
   pub indents_alone : (j : Option Indentation) (n : Memory) (q : ℕ) → Agree rs (answers_to (writer x.form j n) cs q) → Alike x.indentation j bs (sink_after (writer x.form j n) cs q) (documents x.form (accepted_calls cs rs) idle)
   -- an '@' field and the child field behind it may change places
