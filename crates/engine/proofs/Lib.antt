@@ -9,3 +9,4 @@ pub mod Checking
 pub mod Tops
 pub mod Begins
 pub mod Strings
+pub mod Table

@@ -1,9 +1,7 @@
 // Changes to a frame of the caller's table; each takes the whole table.
 ghost use Rattle.std.specs.Prelude.{◌≡◌, ◌<◌, length, slice_index_or, slice_set};
-ghost use Rattle.memory.specs.Lending.{usable, StaysLent};
 ghost use Rattle.engine.specs.Frames.{no_frame, settled_frame, longer_tag};
 
-use memory::Lent;
 use model::{Frame, Kind};
 use style::WriteResult;
 
@@ -30,25 +28,22 @@ fn settled(frame: Frame, res: WriteResult) -> Frame
 }
 
 /// In the frame at `at`, a value with this result is complete. Answers the frame as it was.
-pub fn settle_frame(frames: &mut Lent<'_, Frame>, at: usize, res: WriteResult) -> Frame
-    requires { at < length (usable frames.old) }
-    ensures value { result ≡ slice_index_or (usable frames.old) at no_frame }
-    ensures frames { usable frames.new ≡ slice_set (usable frames.old) at (settled_frame res (slice_index_or (usable frames.old) at no_frame)) }
-    ensures used { frames.new.used ≡ frames.old.used }
-    ensures stays { StaysLent frames.old frames.new }
+pub fn settle_frame(frames: &mut [Frame], at: usize, res: WriteResult) -> Frame
+    requires { at < length frames.old }
+    ensures value { result ≡ slice_index_or frames.old at no_frame }
+    ensures frames { frames.new ≡ slice_set frames.old at (settled_frame res (slice_index_or frames.old at no_frame)) }
+    ensures len { length frames.new ≡ length frames.old }
 {
-    let top = frames.get(at);
-    frames.set(at, settled(top, res));
+    let top = frames[at];
+    frames[at] = settled(top, res);
     top
 }
 
 /// The open tag of the record at `at` now ends at `tag`.
-pub fn lengthen_tag(frames: &mut Lent<'_, Frame>, at: usize, tag: usize)
-    requires { at < length (usable frames.old) }
-    ensures frames { usable frames.new ≡ slice_set (usable frames.old) at (longer_tag tag (slice_index_or (usable frames.old) at no_frame)) }
-    ensures used { frames.new.used ≡ frames.old.used }
-    ensures stays { StaysLent frames.old frames.new }
+pub fn lengthen_tag(frames: &mut [Frame], at: usize, tag: usize)
+    requires { at < length frames.old }
+    ensures frames { frames.new ≡ slice_set frames.old at (longer_tag tag (slice_index_or frames.old at no_frame)) }
+    ensures len { length frames.new ≡ length frames.old }
 {
-    let frame = frames.get(at);
-    frames.set(at, Frame { tag, ..frame });
+    frames[at].tag = tag;
 }

@@ -84,7 +84,7 @@ impl Core<'_> {
         }
         let tag = self.frames.get(frame).tag;
         let end = self.stage.insert(tag, piece);
-        lengthen_tag(&mut self.frames, frame, end);
+        lengthen_tag(self.frames.all, frame, end);
         Ok(())
     }
 
@@ -103,7 +103,7 @@ impl Core<'_> {
         ensures memory { mem self.new ≡ settled res (mem self.old) }
     {
         let at = self.frames.used - 1;
-        let frame = settle_frame(&mut self.frames, at, res);
+        let frame = settle_frame(self.frames.all, at, res);
         self.names.used = frame.keep;
         self.place = place_in(frame, self.wordy);
     }
