@@ -1,4 +1,4 @@
-// Changes to a frame of the caller's table; each takes the whole table.
+// Changes to a frame of the caller's table; each takes the whole table, as it was lent.
 ghost use Rattle.std.specs.Prelude.{◌≡◌, ◌<◌, length, slice_index_or, slice_set};
 ghost use Rattle.engine.specs.Frames.{no_frame, settled_frame, longer_tag};
 
