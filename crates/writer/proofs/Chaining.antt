@@ -1,14 +1,14 @@
 -- A chain of calls: it grows behind its last call, it is a run, and it leaves alone what lies past its largest use. Assumes nothing.
-use Rattle.std.proofs.Common.{◌≡◌, ℕ, ◌+◌, ◌-◌, ◌≤◌, max, List, [], ◌∷◌, ◌++◌, length, drop, Option, Result, sym, refl, ap, ◌∙◌, subst, arith}
+use Rattle.std.proofs.Common.{◌≡◌, ℕ, ◌+◌, ◌-◌, ◌≤◌, List, [], ◌∷◌, ◌++◌, length, drop, Option, Result, sym, refl, ap, ◌∙◌, subst, arith}
 use Rattle.std.proofs.lemmas.List.{drop-drop}
 use Rattle.refusal.specs.declared.Refusal.{Refusal}
 use Rattle.style.specs.declared.indentation.Indentation.{Indentation}
 use Rattle.reader.specs.Trees.{Bytes}
-use Rattle.model.specs.Calls.{Call, Answer}
+use Rattle.model.specs.Calls.{Call}
 use Rattle.model.specs.Model.{State}
 use Rattle.model.specs.Layout.{stage, names, frames}
 use Rattle.model.specs.Table.{Setting, Verdict, refuse, accept, verdict, handed}
-use Rattle.model.specs.Run.{Session, moved_on, after, run}
+use Rattle.model.specs.Run.{Session, moved_on, after}
 use Rattle.engine.specs.Memory.{Buf, Mem}
 use Rattle.engine.specs.Lays.{Lays, Past, Beyond, setting, Told}
 use Rattle.engine.proofs.Fronts.{front_length}

@@ -1,5 +1,5 @@
 -- Histories: they begin at a new writer, grow by the promise of each call, and have the laws of runs. Assumes nothing.
-use Rattle.std.proofs.Common.{◌≡◌, ℕ, true, false, List, [], ◌∷◌, ◌++◌, length, None, Option, Result, sym, refl, ap, ◌∙◌, subst}
+use Rattle.std.proofs.Common.{◌≡◌, ℕ, true, false, List, [], ◌∷◌, ◌++◌, None, Option, Result, sym, refl, ap, ◌∙◌, subst}
 use Rattle.std.specs.List.{AllByRecursion}
 use Rattle.std.specs.Borrow.{MutBor}
 use Rattle.refusal.specs.declared.Refusal.{Refusal}
@@ -10,7 +10,7 @@ use Rattle.model.specs.declared.frame.Frame.{Frame}
 use Rattle.model.specs.Calls.{Call, call_open, call_field, call_value, call_end, call_finish, call_abandon, Answer}
 use Rattle.model.specs.Model.{State, idle}
 use Rattle.model.specs.Table.{Memory, Setting, handed}
-use Rattle.model.specs.Run.{Session, run, answers, writer, new}
+use Rattle.model.specs.Run.{run, answers, writer, new}
 use Rattle.model.specs.Fields.{Field, calls, names_attribute}
 use Rattle.model.specs.Documents.{accepted_calls, documents, layouts}
 use Rattle.model.specs.Says.{trees}

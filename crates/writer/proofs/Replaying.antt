@@ -1,5 +1,5 @@
 -- The promise of a run, from the chain of its calls. Assumes nothing.
-use Rattle.std.proofs.Common.{◌≡◌, ℕ, ◌≤◌, List, [], ◌++◌, length, take, Result, refl, ap, arith}
+use Rattle.std.proofs.Common.{◌≡◌, ℕ, ◌≤◌, List, [], ◌++◌, take, Result, refl, ap, arith}
 use Rattle.refusal.specs.declared.Refusal.{Refusal}
 use Rattle.reader.specs.Trees.{Bytes}
 use Rattle.model.specs.declared.place.Place.TheVariants.{Idle}
@@ -14,7 +14,7 @@ use Rattle.places.specs.Sound.{Sound}
 use Rattle.places.proofs.Standing.{always}
 use Rattle.writer.specs.Served.{all_answered}
 use Rattle.writer.specs.Handed.{Leaving}
-use Rattle.writer.specs.Histories.{History, LawsOf}
+use Rattle.writer.specs.Histories.{History}
 use Rattle.writer.specs.Replayed.{Ran, New, Chain, Replayed}
 use Rattle.writer.proofs.Chaining.{chain_ran, chain_past}
 use Rattle.writer.proofs.Histories.{history_grows_by, laws_of}

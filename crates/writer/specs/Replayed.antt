@@ -1,5 +1,5 @@
 -- What a run of calls on a writer and a sink leaves: each call's own promise, one after another. Assumes nothing.
-use Rattle.std.specs.Prelude.{◌≡◌, ℕ, max, List, [], ◌∷◌, ◌++◌, length, map, drop, Option, Result}
+use Rattle.std.specs.Prelude.{◌≡◌, ℕ, max, List, [], ◌∷◌, ◌++◌, length, map, drop, Result}
 use Rattle.refusal.specs.declared.Refusal.{Refusal}
 use Rattle.reader.specs.Trees.{Bytes}
 use Rattle.model.specs.declared.place.Place.TheVariants.{Idle}

@@ -84,8 +84,9 @@ impl Writer<'_> {
     /// and an accepted finish or abandon takes it. `held` is the ticket of a record that is open now.
     ///
     /// Whatever calls led from a new writer and an empty sink to this writer and this sink: after those and these together,
-    /// unindented, what the sink holds is read as exactly the trees of the records finished into it; another indentation
-    /// changes only the indents; and an '@' field and the child field next to it may change places.
+    /// unindented, what the sink holds is read as exactly the trees of the records finished into it; each indent is as deep as
+    /// elements are open around its tag, and another indentation changes only the indents; and an '@' field and the child
+    /// field next to it may change places.
     pub fn replay<R: EscapeRule, S: Sink>(
         &mut self,
         held: Option<Ticket>,

@@ -1,9 +1,9 @@
-use Rattle.std.proofs.Common.{◌≡◌, ◌+◌, ◌-◌, ◌<◌, length, sym, refl, ap, ◌∙◌, subst, arith, rules}
+use Rattle.std.proofs.Common.{◌≡◌, ◌+◌, ◌<◌, length, ap, ◌∙◌, rules}
 use Rattle.std.specs.Prelude.{slice_index_or, slice_set}
 use Rattle.memory.specs.Lending.{usable}
 use Rattle.memory.specs.Opened.{opened}
 use Rattle.engine.specs.Frames.{no_frame, longer_tag}
-use Rattle.engine.specs.Memory.{Buf, mem, buf, frame_at}
+use Rattle.engine.specs.Memory.{mem, buf, frame_at}
 use Rattle.engine.proofs.Table.{changed_within, kept_past, longer_so}
 use Rattle.engine.proofs.state.Core.put_in_tag.Goals as goal
 
