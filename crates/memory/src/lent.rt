@@ -18,7 +18,7 @@ pub struct Lent<'a, T> {
 }
 
 impl<'a, T> Lent<'a, T> {
-    /// No more of it than the first `most` may be used, and nothing is in use yet.
+    /// A slice of which no more than the first `most` may be used, and nothing is in use yet.
     pub fn first(all: &'a mut [T], most: usize) -> Lent<'a, T>
         ensures reference { result.all.ghost_name ≡ all.entry.ghost_name }
         ensures all { result.all.now ≡ all.old }
@@ -26,17 +26,6 @@ impl<'a, T> Lent<'a, T> {
         ensures used { result.used ≡ 0 }
     {
         Lent { all, most, used: 0 }
-    }
-
-    /// The same, and all of it may be used.
-    pub fn new(all: &'a mut [T]) -> Lent<'a, T>
-        ensures reference { result.all.ghost_name ≡ all.entry.ghost_name }
-        ensures all { result.all.now ≡ all.old }
-        ensures most { result.most ≡ length all.old }
-        ensures used { result.used ≡ 0 }
-    {
-        let len = all.len();
-        Lent::first(all, len)
     }
 }
 

@@ -295,4 +295,4 @@ module _ (w : Setting) where
 
 pub depth_of_indents : DepthOfIndents
 depth_of_indents w cs r =
-    (sink_layout w cs (new r), all_deep w cs (new r) nothing (record { sim = sim_idle; deep = tt }), record { before_its_tag = λ i d. refl; indented = λ i d. refl; unindented = λ d. refl })
+    (sink_layout w cs (new r), all_deep w cs (new r) nothing (record { sim = sim_idle; deep = tt }), record { before_its_tag = λ i d. refl; indented = λ i d. refl; unindented = λ d. refl; of_tags = λ i b. refl; of_texts = λ i b. refl })

@@ -212,6 +212,9 @@ module _ (f : EmptyElementHandling) where
 text_record_misfit : {c : Call} {st : State} → TextRecord c st → misshapen c st ≡ true
 text_record_misfit (text_record e) = e
 
+text_record_steps : (f : EmptyElementHandling) {c : Call} {st : State} → TextRecord c st → (next : State) × (step f c st ≡ Some next)
+text_record_steps f (text_record e) = (_, refl)
+
 -- text where none is allowed
 barred_content : (v : Value) (rs : List Row) (l : Level) (ls : List Outer) → is_text v ≡ true → TextBarred (call_value v) (inside (content false) rs l ls)
 barred_content (val_text r []) rs l ls e = absurd (false≢true e)
@@ -354,4 +357,4 @@ module _ (w : Setting) (room : ℕ) (c : Call) (st : State) where
 
 pub rows_and_steps : RowsAndSteps
 rows_and_steps w room c st =
-    record { order = (allowed_order w.form c st, order_allowed); no_step_there = stray_stays w.form c st; no_step_so = misfit_stays w.form c st; text_record_barred = text_record_misfit; taken = there w room c st; run_on = (barred c st, barred_runs_on); text_taken = barred_taken w.form; name = λ at. (faulty c st at, λ h. named_fault h.meant h.fault ∙ ap Some (sym h.counted)); other_grounds = seven_rows w room c st }
+    record { order = (allowed_order w.form c st, order_allowed); no_step_there = stray_stays w.form c st; no_step_so = misfit_stays w.form c st; text_record_barred = text_record_misfit; text_record_taken = text_record_steps w.form; taken = there w room c st; run_on = (barred c st, barred_runs_on); text_taken = barred_taken w.form; name = λ at. (faulty c st at, λ h. named_fault h.meant h.fault ∙ ap Some (sym h.counted)); other_grounds = seven_rows w room c st }

@@ -34,14 +34,17 @@ mutual
     content_text : {d : ℕ} {b : ℕ} {c : List Mark} → ContentAt d c → ContentAt d (text_byte b ∷ c)
     content_element : {d : ℕ} {e c : List Mark} → ElementAt d e → ContentAt d c → ContentAt d (e ++ c)
 
--- what an indent of d levels is: a line feed, then the indent byte, size times for each level; without indentation it is no bytes
-pub record BytesOfIndents : Type 0 where
+-- what an indent of d levels is: a line feed, then the indent byte, size times for each level; without indentation it is no bytes.
+-- Every other mark is its own byte, whatever the indentation
+pub record BytesOfMarks : Type 0 where
   pub before_its_tag : (i : Option Indentation) (d : ℕ) → bytes_of_mark i (lead d) ≡ indent i d ++ codes "<"
   pub indented : (i : Indentation) (d : ℕ) → indent (Some i) d ≡ 10 ∷ replicate (i.size * d) i.byte
   pub unindented : (d : ℕ) → indent None d ≡ []
+  pub of_tags : (i : Option Indentation) (b : ℕ) → bytes_of_mark i (tag_byte b) ≡ b ∷ []
+  pub of_texts : (i : Option Indentation) (b : ℕ) → bytes_of_mark i (text_byte b) ≡ b ∷ []
 
 -- Depth of indents: a sink holds the layout of records, each an element around which none is open: so each indent in it is as deep as
 -- elements are open around its tag. They are the open records, since an element around a text holds no tag
 abbrev pub DepthOfIndents : Type 0
 DepthOfIndents =
-    (w : Setting) (cs : List Call) (r : ℕ) → (sink_after w cs r ≡ layouts w.indentation (documents w.form (accepted_calls cs (answers_to w cs r)) idle)) × AllByRecursion (ElementAt 0) (documents w.form (accepted_calls cs (answers_to w cs r)) idle) × BytesOfIndents
+    (w : Setting) (cs : List Call) (r : ℕ) → (sink_after w cs r ≡ layouts w.indentation (documents w.form (accepted_calls cs (answers_to w cs r)) idle)) × AllByRecursion (ElementAt 0) (documents w.form (accepted_calls cs (answers_to w cs r)) idle) × BytesOfMarks

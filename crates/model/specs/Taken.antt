@@ -69,6 +69,7 @@ pub record RowsMeetSteps (w : Setting) (room : ℕ) (c : Call) (st : State) : Ty
   -- what the third row bars has none either, but for one call
   pub no_step_so : misshapen c st ≡ true → (step w.form c st ≡ None) ⊎ TextRecord c st
   pub text_record_barred : TextRecord c st → misshapen c st ≡ true
+  pub text_record_taken : TextRecord c st → (next : State) × (step w.form c st ≡ Some next)
   -- all else has one
   pub taken : out_of_order c st ≡ false → misshapen c st ≡ false → (next : State) × (step w.form c st ≡ Some next)
   -- the fourth row bars text where none is allowed, which has a step

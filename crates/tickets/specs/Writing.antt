@@ -4,7 +4,7 @@ use Rattle.refusal.specs.declared.Refusal.{Refusal}
 use Rattle.reader.specs.Trees.{Bytes, done, elem, Tree, tree, before}
 use Rattle.model.specs.Laws.{ReadsExactly}
 use Rattle.engine.specs.Memory.{Mem}
-use Rattle.writer.specs.Replayed.{New}
+use Rattle.writer.specs.Histories.{New}
 
 -- what the record says: the number of the sheet, and the trail on it
 abbrev pub sheet_of : Bytes → Tree

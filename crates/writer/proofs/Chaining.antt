@@ -23,7 +23,15 @@ kept_further : {A : Type 0} (a b : ℕ) (p q : Buf A) → a ≤ b → KeptPast a
 kept_further {A = A} a b p q low h =
     let e : a + (b - a) ≡ b = omega (arith, low) in
     let on : (z : Buf A) → drop b z.all ≡ drop (b - a) (drop a z.all) = λ z. ap (λ n. drop n z.all) (sym e) ∙ sym (drop-drop (b - a) a z.all) in
-    on q ∙ ap (drop (b - a)) h ∙ sym (on p)
+    (on q ∙ ap (drop (b - a)) h.0 ∙ sym (on p), h.1, h.2)
+
+-- once and again
+kept_both : {A : Type 0} (a : ℕ) (p q r : Buf A) → KeptPast a p q → KeptPast a q r → KeptPast a p r
+kept_both a p q r h k = (k.0 ∙ h.0, k.1 ∙ h.1, k.2 ∙ h.2)
+
+-- where nothing has changed
+same_kept : {A : Type 0} (a : ℕ) {p q : Buf A} → q ≡ p → KeptPast a p q
+same_kept a e = (ap (λ y. drop a y.all) e, ap (λ y. y.rest) e, ap (λ y. y.reference) e)
 
 -- a run has at least so much in use as at its start
 starts_below : (size : State → ℕ) (w : Setting) (cs : List Call) (s : Session) → size s.model ≤ largest size w cs s
@@ -58,13 +66,14 @@ module _ {S : Type 0} (held : S → Bytes) (room : S → ℕ) (leaves : Leaving 
   module _ {A : Type 0} (part : Mem → Buf A) (size : Option Indentation → State → ℕ) (in_use : (m : State) (w : Mem) → Lays m w → (part w).used ≡ size w.indentation m) (past : (w v : Mem) → Beyond w v → Past (part w) (part v)) where
     -- one call keeps what lies past the use that it leaves
     one_kept : (x : Verdict) (m : State) (r : Result (Unit {0}) Refusal) (w u : Mem) (bs h : Bytes) (k a : ℕ) → Told x r w u → size w.indentation (moved_on (session m bs k) h x).model ≤ a → KeptPast a (part w) (part u)
-    one_kept (refuse e) m r w u bs h k a t low = ap (λ y. drop a (part y).all) t.1
+    one_kept (refuse e) m r w u bs h k a t low = same_kept a (ap part t.1)
     one_kept (accept n) m r w u bs h k a t low =
         let used : (part u).used ≡ size w.indentation n = in_use n u t.1 ∙ ap (λ i. size i n) t.2.indentation in
-        kept_further (part u).used a (part w) (part u) (omega (arith, used, low)) (past w u t.2).past
+        let p = past w u t.2 in
+        kept_further (part u).used a (part w) (part u) (omega (arith, used, low)) (p.past, p.rest, p.reference)
 
     kept : (cs : List Call) (rs : List (Result (Unit {0}) Refusal)) (w v : Mem) (s t : S) → Chain held room leaves cs rs w s v t → (m : State) → Lays m w → KeptPast (largest (size w.indentation) (setting w) cs (session m (held s) (room s))) (part w) (part v)
-    kept [] [] w v s t p m lay = ap (λ y. drop (size w.indentation m) (part y).all) p.0
+    kept [] [] w v s t p m lay = same_kept (size w.indentation m) (ap part p.0)
     kept [] (r ∷ rs) w v s t p m lay = absurd p
     kept (c ∷ cs) [] w v s t p m lay = absurd p
     kept (c ∷ cs) (r ∷ rs) w v s t p m lay =
@@ -83,7 +92,8 @@ module _ {S : Type 0} (held : S → Bytes) (room : S → ℕ) (leaves : Leaving 
         (subst (λ z. KeptPast (largest (size z.indentation) z cs (session next.model (held p.1) (room p.1))) (part p.0) (part v)) same (kept cs rs p.0 v p.1 t p.4 next.model there)) in
         let below : size w.indentation next.model ≤ later = starts_below (size w.indentation) (setting w) cs next in
         let within : later ≤ all = omega arith in
-        kept_further later all (part p.0) (part v) within rest ∙ one_kept x m r w p.0 (held s) bs (room s) all d.told (omega (arith, below, within))
+        let first_kept : KeptPast all (part w) (part p.0) = one_kept x m r w p.0 (held s) bs (room s) all d.told (omega (arith, below, within)) in
+        kept_both all (part w) (part p.0) (part v) first_kept (kept_further later all (part p.0) (part v) within rest)
 
   -- of all three
   pub chain_past : (cs : List Call) (rs : List (Result (Unit {0}) Refusal)) (w v : Mem) (s t : S) → Chain held room leaves cs rs w s v t → (m : State) → Lays m w → PastLargestKept cs w v (session m (held s) (room s))

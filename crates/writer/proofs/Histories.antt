@@ -21,7 +21,7 @@ use Rattle.model.proofs.Documents.{indents_alone}
 use Rattle.model.proofs.Settled.{no_indent_after_text}
 use Rattle.model.proofs.Depths.{depth_of_indents}
 use Rattle.model.proofs.Swapping.{attributes_change_places}
-use Rattle.model.specs.Indents.{ElementAt, BytesOfIndents}
+use Rattle.model.specs.Indents.{ElementAt, BytesOfMarks}
 use Rattle.engine.specs.Memory.{Mem}
 use Rattle.engine.specs.Lays.{Lays, setting, Does}
 use Rattle.writer.specs.Starting.{starting}
@@ -77,10 +77,10 @@ module _ (x : Setting) (cs : List Call) (rs : List Answer) (r : ℕ) (w : Mem) (
       λ j e. subst (λ z. ReadsExactly (sink_after (writer x.form z x.memory) cs r) (trees cs (answers_to (writer x.form z x.memory) cs r))) (sym e) (reads_back x.form x.memory r cs) in
       subst (λ z. ReadsExactly z (trees cs rs)) (sym h.held) (subst (λ z. ReadsExactly (sink_after x cs r) (trees cs z)) (sym h.told) (at x.indentation i))
 
-  deep : (bs ≡ layouts x.indentation (documents x.form (accepted_calls cs rs) idle)) × AllByRecursion (ElementAt 0) (documents x.form (accepted_calls cs rs) idle) × BytesOfIndents
+  deep : (bs ≡ layouts x.indentation (documents x.form (accepted_calls cs rs) idle)) × AllByRecursion (ElementAt 0) (documents x.form (accepted_calls cs rs) idle) × BytesOfMarks
   deep =
-      subst (λ z. (z ≡ layouts x.indentation (documents x.form (accepted_calls cs rs) idle)) × AllByRecursion (ElementAt 0) (documents x.form (accepted_calls cs rs) idle) × BytesOfIndents) (sym h.held)
-      (subst (λ z. (sink_after x cs r ≡ layouts x.indentation (documents x.form (accepted_calls cs z) idle)) × AllByRecursion (ElementAt 0) (documents x.form (accepted_calls cs z) idle) × BytesOfIndents) (sym h.told) (depth_of_indents x cs r))
+      subst (λ z. (z ≡ layouts x.indentation (documents x.form (accepted_calls cs rs) idle)) × AllByRecursion (ElementAt 0) (documents x.form (accepted_calls cs rs) idle) × BytesOfMarks) (sym h.held)
+      (subst (λ z. (sink_after x cs r ≡ layouts x.indentation (documents x.form (accepted_calls cs z) idle)) × AllByRecursion (ElementAt 0) (documents x.form (accepted_calls cs z) idle) × BytesOfMarks) (sym h.told) (depth_of_indents x cs r))
 
   alike : (j : Option Indentation) (n : Memory) (q : ℕ) → Agree rs (answers_to (writer x.form j n) cs q) → Alike x.indentation j bs (sink_after (writer x.form j n) cs q) (documents x.form (accepted_calls cs rs) idle)
   alike j n q agree =

@@ -14,8 +14,8 @@ use Rattle.places.specs.Sound.{Sound}
 use Rattle.places.proofs.Standing.{always}
 use Rattle.writer.specs.Served.{all_answered}
 use Rattle.writer.specs.Handed.{Leaving}
-use Rattle.writer.specs.Histories.{History}
-use Rattle.writer.specs.Replayed.{Ran, New, Chain, Replayed}
+use Rattle.writer.specs.Histories.{New, History}
+use Rattle.writer.specs.Replayed.{Ran, Chain, Replayed}
 use Rattle.writer.proofs.Chaining.{chain_ran, chain_past}
 use Rattle.writer.proofs.Histories.{history_grows_by, laws_of}
 

@@ -2,7 +2,6 @@
 use Rattle.std.specs.Prelude.{◌≡◌, ℕ, max, List, [], ◌∷◌, ◌++◌, length, map, drop, Result}
 use Rattle.refusal.specs.declared.Refusal.{Refusal}
 use Rattle.reader.specs.Trees.{Bytes}
-use Rattle.model.specs.declared.place.Place.TheVariants.{Idle}
 use Rattle.model.specs.Calls.{Call, Answer}
 use Rattle.model.specs.Model.{State}
 use Rattle.model.specs.Layout.{stage, names, frames}
@@ -14,7 +13,7 @@ use Rattle.writer.specs.declared.call.Call.{Call as call_in_code}
 use Rattle.writer.specs.declared.replay.Step.{Step}
 use Rattle.writer.specs.Served.{session, Serves, all_answered}
 use Rattle.writer.specs.Handed.{Leaving, SinkAfter}
-use Rattle.writer.specs.Histories.{History, LawsOf}
+use Rattle.writer.specs.Histories.{New, History, LawsOf}
 
 -- the calls of steps, and what stands in the places of their answers
 abbrev pub calls_of : {R : Type 0} → List (Step R) → List (call_in_code R)
@@ -47,20 +46,15 @@ abbrev pub largest : (State → ℕ) → Setting → List Call → Session → �
 largest size w [] s = size s.model
 largest size w (c ∷ cs) s = max (size s.model) (largest size w cs (after w c s))
 
--- what lies past so much is as it was
+-- it is still the same slice, and what lies past so much is as it was, as is what lies past all that may be used
 abbrev pub KeptPast : {A : Type 0} → ℕ → Buf A → Buf A → Type 0
-KeptPast n b c = drop n c.all ≡ drop n b.all
+KeptPast n b c = (drop n c.all ≡ drop n b.all) × (c.rest ≡ b.rest) × (c.reference ≡ b.reference)
 
--- what lies past the largest use of a run is as it was before the run
+-- what lies past the largest use of a run is as it was before the run, in the same three slices
 pub record PastLargestKept (cs : List Call) (w v : Mem) (s : Session) : Type 0 where
   pub stage : KeptPast (largest (λ m. length (stage w.indentation m)) (setting w) cs s) w.stage v.stage
   pub names : KeptPast (largest (λ m. length (names m)) (setting w) cs s) w.names v.names
   pub frames : KeptPast (largest (λ m. length (frames w.indentation m)) (setting w) cs s) w.frames v.frames
-
--- the writer is idle and the sink is empty
-pub record New (w : Mem) (bs : Bytes) : Type 0 where
-  pub place : w.place ≡ Idle
-  pub empty : bs ≡ []
 
 -- the calls cs were run on a writer and a sink: memory w and v and the sinks s and t before and after, and the results
 pub record Replayed {S : Type 0} (held : S → Bytes) (room : S → ℕ) (leaves : Leaving S) (cs : List Call) (rs : List (Result (Unit {0}) Refusal)) (w : Mem) (s : S) (v : Mem) (t : S) : Type 0 where
