@@ -11,7 +11,7 @@ pub trait Sink {
 
     ghost room: { Self → ℕ };
 
-    // What a put of these bytes, so answered, leaves of the sink besides: memory of its own. A sink without any asks nothing.
+    // What a put of these bytes, so answered, leaves of the sink besides: memory of its own. A sink without any says `⊤`.
     ghost leaves: { Self → List ℕ → Result (Unit {0}) Refusal → Self → Type 0 };
 
     /// How many bytes it holds, and how many it still takes.

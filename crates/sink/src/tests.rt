@@ -1,4 +1,5 @@
 // Edges of the two sinks, and what a lender finds in its buffer once the sink is gone.
+ghost use Rattle.std.specs.Prelude.{[], ⊤};
 ghost use Rattle.sink.specs.Puts.{Keeps};
 
 use crate::{BufferSink, PageSink, Sink};
@@ -20,6 +21,38 @@ fn fill<S: Sink>(rt: &impl Abort, sink: &mut S, size: usize, bytes: &[u8]) {
     assert_eq!(rt; sink.counts(), (size, 0));
     assert_eq!(rt; sink.put(b"x"), Err(Refusal::Sink));
     assert_eq!(rt; sink.put(b""), Ok(()));
+}
+
+// A sink that takes nothing, and has no memory of its own.
+#[derive(Drop)]
+struct Closed {}
+
+impl Sink for Closed {
+    ghost held = { λ s. [] };
+
+    ghost room = { λ s. 0 };
+
+    ghost leaves = { λ s bytes r s'. ⊤ };
+
+    fn counts(&self) -> (usize, usize) {
+        (0, 0)
+    }
+
+    fn put(&mut self, bytes: &[u8]) -> Result<(), Refusal> {
+        if bytes.is_empty() {
+            Ok(())
+        } else {
+            Err(Refusal::Sink)
+        }
+    }
+}
+
+#[test]
+fn a_sink_without_memory(rt: HostRuntime) {
+    let mut sink = Closed {};
+    assert_eq!(rt; sink.put(b""), Ok(()));
+    assert_eq!(rt; sink.put(b"x"), Err(Refusal::Sink));
+    assert_eq!(rt; sink.counts(), (0, 0));
 }
 
 #[test]
