@@ -1,1 +1,2 @@
+pub mod GoingOn
 pub mod Writing

@@ -1,2 +1,3 @@
+pub mod GoingOn
 pub mod Settling
 pub mod Writing

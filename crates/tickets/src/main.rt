@@ -1,17 +1,21 @@
-// Writes one record by calling the writer from code, and finishes it with its ticket.
+// Writes two records by calling the writer from code: one by single calls, finished with its ticket, and one in runs that go on.
 // The texts in must-fail/ change it by one slip each, which the checker refuses.
 #![tactic(auto)]
 
+ghost use Rattle.std.specs.Prelude.{◌++◌};
+ghost use Rattle.engine.specs.Lays.{setting};
 ghost use Rattle.engine.specs.Memory.{mem};
+ghost use Rattle.tickets.specs.GoingOn.{begun, ended, GoesOn};
 ghost use Rattle.tickets.specs.Settling.{Makes, fields, GivesUp, HandsIn, Settles};
 ghost use Rattle.tickets.specs.Writing.{Written};
+ghost use Rattle.writer.specs.Histories.{New};
 
 use model::Frame;
 use refusal::Refusal;
 use sink::{BufferSink, Sink};
 use std::io;
 use style::{EmptyElementHandling, Style};
-use writer::{Ticket, Writer};
+use writer::{Call, Step, Ticket, Value, Writer};
 use xml::{QuoteLevel, well_formed};
 
 const TRAIL: &str = "Höhenweg & Tal";
@@ -61,13 +65,33 @@ fn settle<S: Sink>(
 }
 
 /// Writes the record of a trail into a sink, whole or not at all: an empty sink of an idle unindented writer is then read as
-/// exactly this record, or it stays empty.
+/// exactly this record, or it stays empty. It is refused only where one of the record's calls is, and as the first such call.
 fn write_sheet<S: Sink>(writer: &mut Writer<'_>, sink: &mut S, trail: &str) -> Result<(), Refusal>
-    ensures written { Written trail.now result (mem writer.old.core) (S.held sink.old) (S.held sink.new) }
+    ensures written { New (mem writer.old.core) (S.held sink.old) → Written trail.now result (setting (mem writer.old.core)) (S.room sink.old) (S.held sink.new) }
 {
     let ticket = writer.open(b"sheet")?;
     let filled = fill(writer, trail);
     settle(writer, sink, ticket, filled)
+}
+
+/// Writes a second record in runs that go on: each takes the ticket that the one before it hands out, and a run of no calls
+/// hands on what it takes. Their calls and those before them are one history, and so the laws hold of both records.
+fn write_ridge<S: Sink>(writer: &mut Writer<'_>, sink: &mut S) -> Option<Ticket>
+    ensures goes_on { GoesOn (begun ++ ended) (mem writer.old.core) (S.held sink.old) (S.room sink.old) (mem writer.new.core) (S.held sink.new) (S.room sink.new) }
+{
+    let mut first: [Step<'_, QuoteLevel>; 2] = [
+        Step::new(Call::Open(b"sheet")),
+        Step::new(Call::Field(b"trail")),
+    ];
+    let mut second = [
+        Step::new(Call::Value(Value::Text(b"Grat", QuoteLevel::Partial))),
+        Step::new(Call::End),
+        Step::new(Call::Finish),
+    ];
+    let mut none: [Step<'_, QuoteLevel>; 0] = [];
+    let open = writer.replay(None, sink, &mut first);
+    let over = writer.replay(open, sink, &mut second);
+    writer.replay(over, sink, &mut none)
 }
 
 fn main(rt: HostRuntime) -> io::Result<()> {
@@ -84,6 +108,8 @@ fn main(rt: HostRuntime) -> io::Result<()> {
     if let Err(refusal) = write_sheet(&mut writer, &mut sink, TRAIL) {
         println!(rt; "{refusal}")?;
     }
+    let left = write_ridge(&mut writer, &mut sink);
+    writer.close(left);
     if let Ok(text) = well_formed(sink.held()) {
         println!(rt; "{text}")?;
     }
