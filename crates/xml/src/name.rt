@@ -44,7 +44,7 @@ fn is_name_char(c: char) -> bool
 }
 
 // The offset of the first character that stands in no name, if there is one.
-// A loop that breaks with it: the name check is to walk a name once and by hand (docs/DECISIONS.md).
+// A loop that breaks with it, by hand: a closure would have to hand out the offset too.
 fn first_stray(name: &str) -> Option<usize>
     ensures { result ≡ stray_from (chars name.now) 0 }
 {
@@ -80,12 +80,16 @@ fn is_plain_name(bytes: &[u8]) -> bool
     let [first, rest @ ..] = bytes else {
         return false;
     };
+    // The first byte first: where it is at fault, nothing behind it is read.
+    if !is_plain_start(*first) {
+        return false;
+    }
     for byte in rest {
         if !is_plain(*byte) {
             return false;
         }
     }
-    is_plain_start(*first)
+    true
 }
 
 // The offset of the first character at fault: a name also has to begin, and with a start character.
@@ -102,21 +106,28 @@ fn first_fault(name: &str) -> Option<usize>
     }
 }
 
-/// The name that these characters are, or refusal 5 with the offset of the first character at fault.
+/// As the function of that name, which also takes what is lent as a `&str`, as a `&String` is.
 impl<'n> TryFrom<&'n str> for XmlName<'n> {
     type Error = Refusal;
 
     ghost try_from_gives = { λ name r. MatchResult r (λ n. (n.name.now ≡ name.now) × Name name.now) (λ e. (number e ≡ 5) × (name_fault name.now ≡ Some (offset e)) × FirstAtFault name.now (offset e) × (Name name.now → ⊥)) };
 
     fn try_from(name: &'n str) -> Result<XmlName<'n>, Refusal> {
+        XmlName::try_from(name)
+    }
+}
+
+impl<'n> XmlName<'n> {
+    /// The name that these characters are, or refusal 5 with the offset of the first character at fault.
+    pub fn try_from(name: &'n str) -> Result<XmlName<'n>, Refusal>
+        ensures cases { MatchResult result (λ n. (n.name.now ≡ name.now) × Name name.now) (λ e. (number e ≡ 5) × (name_fault name.now ≡ Some (offset e)) × FirstAtFault name.now (offset e) × (Name name.now → ⊥)) }
+    {
         match first_fault(name) {
             None => Ok(XmlName { name }),
             Some(at) => Err(Refusal::Name(at)),
         }
     }
-}
 
-impl<'n> XmlName<'n> {
     #[tactic(auto, using(crate::proofs::Naming::name_from_no_fault))]
     pub fn as_str(&self) -> &'n str
         ensures value { result.now ≡ self.now.name.now }

@@ -1,4 +1,4 @@
-use Rattle.std.proofs.Common.{◌≡◌, true, ◌∷◌, ◌∙◌, sym, ap, subst, get_or, take, drop, length, ◌-◌, arith}
+use Rattle.std.proofs.Common.{◌≡◌, true, ◌∷◌, ◌∙◌, refl, sym, ap, subst, get_or, take, drop, length, ◌-◌, arith}
 use Rattle.std.specs.List.{list_all}
 use Rattle.std.specs.Str.{IsAscii}
 use Rattle.std.proofs.lemmas.List.{drop_more, take_all, length-drop}
@@ -17,7 +17,7 @@ returns c =
     let done : behind ≡ take c.loop-byte.byte-index behind = sym (take_all c.loop-byte.byte-index behind c.loop-byte-test.false) in
     let all : list_all plain rest ≡ true = ap (list_all plain) (cut ∙ done) ∙ c.loop-byte.invariant in
     record {
-      plain = λ h.
-          let name = plain_name first rest (c.is_plain_start.ensures.start h) all in
+      plain = λ _.
+          let name = plain_name first rest (c.if-not-is_plain_start.ensures.start refl) all in
           (subst (λ l. is_name l ≡ true) whole name.0, subst IsAscii whole name.1);
     }
