@@ -79,11 +79,10 @@ impl Core<'_> {
         requires tag { (frame_at (mem self.old) frame).tag ≤ self.old.stage.used }
         ensures puts { PutInTag result frame (P.bytes piece.now) (mem self.old) (mem self.new) }
     {
-        if !self.stage.fits(piece) {
-            return Err(Refusal::Stage);
-        }
+        // Measured once, since the children move by its size.
+        let size = self.stage.fitting_size(piece).ok_or(Refusal::Stage)?;
         let tag = self.frames.get(frame).tag;
-        let end = self.stage.insert(tag, piece);
+        let end = self.stage.insert_sized(tag, piece, size);
         lengthen_tag(self.frames.all, frame, end);
         Ok(())
     }

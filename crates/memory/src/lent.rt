@@ -1,5 +1,5 @@
 // Memory that a caller lends, and how much of it is in use.
-ghost use Rattle.std.specs.Prelude.{◌≡◌, ◌+◌, ◌-◌, ◌<◌, ◌≤◌, ◌++◌, length, take, drop, slice_set, slice_index_or, nat_le};
+ghost use Rattle.std.specs.Prelude.{◌≡◌, ◌+◌, ◌-◌, ◌<◌, ◌≤◌, ◌++◌, length, take, drop, slice_set, slice_index_or, nat_le, MatchOption};
 ghost use Rattle.memory.specs.Laid.{laid};
 ghost use Rattle.memory.specs.Opened.{opened};
 ghost use Rattle.memory.specs.Lending.{usable, StaysLent};
@@ -105,6 +105,15 @@ impl Lent<'_, u8> {
         piece.bound() <= room || piece.size() <= room
     }
 
+    /// The size of a piece that fits behind what is in use; none where it does not fit.
+    pub fn fitting_size<P: Piece>(&self, piece: &P) -> Option<usize>
+        requires { self.now.used ≤ length (usable self.now) }
+        ensures size { MatchOption result (length (usable self.now) < self.now.used + length (P.bytes piece.now)) (λ size. (size ≡ length (P.bytes piece.now)) × (self.now.used + length (P.bytes piece.now) ≤ length (usable self.now))) }
+    {
+        let size = piece.size();
+        (size <= self.room()).then_some(size)
+    }
+
     /// Lays a piece behind what is in use.
     pub fn append<P: Piece>(&mut self, piece: &P)
         requires { self.old.used + length (P.bytes piece.now) ≤ length (usable self.old) }
@@ -127,7 +136,22 @@ impl Lent<'_, u8> {
         ensures len { length (usable self.new) ≡ length (usable self.old) }
         ensures stays { StaysLent self.old self.new }
     {
-        self.used = shift(self.all, at, self.used, piece.size());
+        self.insert_sized(at, piece, piece.size())
+    }
+
+    /// Puts a piece of this size in at `at`, for a caller that has measured it: what is in use from there on comes behind it.
+    /// Answers where it ends.
+    pub fn insert_sized<P: Piece>(&mut self, at: usize, piece: &P, size: usize) -> usize
+        requires within { at ≤ self.old.used }
+        requires room { self.old.used + length (P.bytes piece.now) ≤ length (usable self.old) }
+        requires size { size ≡ length (P.bytes piece.now) }
+        ensures end { result ≡ at + length (P.bytes piece.now) }
+        ensures all { usable self.new ≡ opened (usable self.old) at self.old.used (P.bytes piece.now) }
+        ensures used { self.new.used ≡ self.old.used + length (P.bytes piece.now) }
+        ensures len { length (usable self.new) ≡ length (usable self.old) }
+        ensures stays { StaysLent self.old self.new }
+    {
+        self.used = shift(self.all, at, self.used, size);
         piece.lay(self.all, at)
     }
 }

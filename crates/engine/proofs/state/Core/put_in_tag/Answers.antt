@@ -15,13 +15,13 @@ returns g c =
     let low : c.args.frame < length (usable l) = c.requires.within in
     let w = mem core in
     let tag = (frame_at w c.args.frame).tag in
-    let end : c.insert-end.result ≡ tag + length bs = search rules in
+    let end : c.insert_sized-end.result ≡ tag + length bs = search rules in
     let longer : c.lengthen_tag.new.frames ≡ slice_set l.all.now c.args.frame (longer_tag (tag + length bs) (slice_index_or l.all.now c.args.frame no_frame)) = c.lengthen_tag.ensures.frames ∙ ap (λ t. slice_set l.all.now c.args.frame (longer_tag t (slice_index_or l.all.now c.args.frame no_frame))) end in
-    let stage : buf c.insert-end.new.self ≡ record w.stage { all = opened w.stage.all tag w.stage.used bs; used = w.stage.used + length bs } = search rules in
+    let stage : buf c.insert_sized-end.new.self ≡ record w.stage { all = opened w.stage.all tag w.stage.used bs; used = w.stage.used + length bs } = search rules in
     record {
       puts = (
         search rules,
-        longer_so w c.args.frame bs (buf c.insert-end.new.self) _ _ stage
+        longer_so w c.args.frame bs (buf c.insert_sized-end.new.self) _ _ stage
             (changed_within l.most l.all.now c.lengthen_tag.new.frames c.args.frame (longer_tag (tag + length bs)) low longer)
             (kept_past l.most l.all.now c.lengthen_tag.new.frames c.args.frame (longer_tag (tag + length bs)) low longer),
       );
