@@ -97,7 +97,8 @@ fn first_fault(name: &str) -> Option<usize>
     ensures value { result ≡ name_fault name.now }
     ensures faults { Faults result name.now }
 {
-    if is_plain_name(name.as_bytes()) {
+    // Asked first, so that a name with other characters is not walked by its bytes and then once more.
+    if name.is_ascii() && is_plain_name(name.as_bytes()) {
         None
     } else if name.starts_with(is_name_start_char) {
         first_stray(name)
