@@ -23,6 +23,11 @@ pub record Reader : Type 0 where
 abbrev pub Countable : Reader → Type 0
 Countable r = r.read + length r.rest < 2 ^ 64
 
+-- a reader whose lines can be counted, which every script is
+pub record Counted : Type 0 where
+  pub reader : Reader
+  pub counts : Countable reader
+
 -- one line further
 pub record Further (old new : Reader) : Type 0 where
   pub some : 0 < length old.rest

@@ -1,9 +1,9 @@
 // A script that is read line by line.
-ghost use Rattle.std.specs.Prelude.{◌≡◌, ◌<◌, length, Ok, MatchResult};
+ghost use Rattle.std.specs.Prelude.{◌≡◌, ◌+◌, ◌^◌, ◌<◌, length, Ok, MatchResult};
 ghost use Rattle.script.specs.Cuts.{first_line, later_lines};
 ghost use Rattle.script.specs.Says.{Says};
 ghost use Rattle.script.specs.Order.{role, follows};
-ghost use Rattle.script.specs.Script.{Stops, Reader, Countable, Next};
+ghost use Rattle.script.specs.Script.{Stops, Counted, Next};
 ghost use Rattle.script.specs.declared.order.Phase.TheVariants.{SettingUp};
 
 use crate::cuts::part;
@@ -38,22 +38,21 @@ pub struct Script<'s> {
     rest: &'s [u8],
     read: usize,
     phase: Phase,
+    ghost counts: { read + length rest.now < 2 ^ 64 },
 }
 
+// The fact is a ghost field and no `invariant`, so that `view` hands it on: each caller has it, of any script.
 impl<'s> Model for Script<'s> {
-    ghost Value = { Reader };
+    ghost Value = { Counted };
 
-    ghost view = { λ s. record { rest = s.rest.now; read = s.read; phase = s.phase } };
-
-    ghost invariant = { λ s. Countable (record { rest = s.rest.now; read = s.read; phase = s.phase }) };
+    ghost view = { λ s. record { reader = record { rest = s.rest.now; read = s.read; phase = s.phase }; counts = s.counts } };
 }
 
 impl<'s> Script<'s> {
     pub fn new(script: &'s [u8]) -> Script<'s>
-        ensures rest { result.rest ≡ script.now }
-        ensures read { result.read ≡ 0 }
-        ensures phase { result.phase ≡ SettingUp }
-        ensures counts { Countable result }
+        ensures rest { result.reader.rest ≡ script.now }
+        ensures read { result.reader.read ≡ 0 }
+        ensures phase { result.reader.phase ≡ SettingUp }
     {
         Script {
             rest: script,
@@ -66,8 +65,7 @@ impl<'s> Script<'s> {
     /// The next line with its number, counted from 1, or nothing at the end.
     /// An error is told with its line, and the line counts as read.
     pub fn next_line(&mut self, heap: Global) -> Result<Option<Numbered>, ScriptError>
-        ensures next { Next result self.old self.new }
-        ensures counts { Countable self.new }
+        ensures next { Next result self.old.reader self.new.reader }
     {
         if self.rest.is_empty() {
             return Ok(None);

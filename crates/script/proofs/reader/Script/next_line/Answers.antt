@@ -14,10 +14,10 @@ numbered P Q (Err e) (Err x) n R m k h = rw (k e x m) (refl, h)
 pub returns-in_err-line : goal.returns-in_err-line
 returns-in_err-line c =
     let p = err_from_is_err_and c.from_residual.result c.from_residual.ensures.1 in
-    let at = MatchResult-at_err _ _ c.in_err-line.field-0.0 c.in_err-line.was (numbered _ _ c.read_in_phase.result c.map_err.result (c.args.self.now.read + 1) _ c.map_err.ensures.cases (λ e x h. search rules) c.read_in_phase.ensures.cases) in
+    let at = MatchResult-at_err _ _ c.in_err-line.field-0.0 c.in_err-line.was (numbered _ _ c.read_in_phase.result c.map_err.result (c.args.self.now.reader.read + 1) _ c.map_err.ensures.cases (λ e x h. search rules) c.read_in_phase.ensures.cases) in
     rw (p.1, p.2) (search (rules, at))
 
 pub returns : goal.returns
 returns c =
-    let at = MatchResult-at_ok _ _ (c.in_ok-line.line, c.in_ok-line.phase) c.in_ok-line.was (numbered _ _ c.read_in_phase.result c.map_err.result (c.args.self.now.read + 1) _ c.map_err.ensures.cases (λ e x h. search rules) c.read_in_phase.ensures.cases) in
+    let at = MatchResult-at_ok _ _ (c.in_ok-line.line, c.in_ok-line.phase) c.in_ok-line.was (numbered _ _ c.read_in_phase.result c.map_err.result (c.args.self.now.reader.read + 1) _ c.map_err.ensures.cases (λ e x h. search rules) c.read_in_phase.ensures.cases) in
     search (rules, at)
