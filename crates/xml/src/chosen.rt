@@ -47,6 +47,20 @@ fn replacement_of(byte: u8) -> &'static [u8]
     }
 }
 
+// A run of bytes that stay, laid as it is. Between two replaced bytes it is empty, and then nothing is copied.
+#[inline(always)]
+fn lay_run(out: &mut [u8], at: usize, run: &[u8]) -> usize
+    requires { at + length run.now ≤ length out.old }
+    ensures end { result ≡ at + length run.now }
+    ensures bytes { out.new ≡ laid out.old at run.now }
+    ensures len { length out.new ≡ length out.old }
+{
+    if run.is_empty() {
+        return at;
+    }
+    lay(out, at, run)
+}
+
 impl Chosen {
     /// The bytes that this rule replaces for a use.
     pub fn by<R: EscapeRule>(rule: &R, target: Use) -> Chosen
@@ -171,7 +185,7 @@ impl Chosen {
         let mut end = at;
         loop {
             let (run, behind) = rest.split_at(self.run_len(rest));
-            end = lay(out, end, run);
+            end = lay_run(out, end, run);
             let [byte, behind @ ..] = behind else {
                 return end;
             };

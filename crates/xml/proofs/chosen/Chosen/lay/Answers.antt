@@ -11,14 +11,14 @@ returns-in_default-clause-bytes c =
     let run = c.split_at.result.0.now in
     let done = l.invariant.0 in
     let last = run_last (marked c.args.self.bits) c.args.value.now c.args.out.now c.args.at c.requires done l.rest.now l.invariant.1 c.run_len.result c.run_len.ensures.stays c.run_len.ensures.next run c.split_at.result.1.now c.split_at.ensures.front c.split_at.ensures.back c.in_default.len_below in
-    let placed = placed_more c.args.out.now c.args.at done run (omega (arith, c.requires, ap length last, length-append done run)) l.end l.out l.invariant.2 c.lay-end.result c.lay-end.new.out c.lay-end.ensures.end c.lay-end.ensures.bytes in
+    let placed = placed_more c.args.out.now c.args.at done run (omega (arith, c.requires, ap length last, length-append done run)) l.end l.out l.invariant.2 c.lay_run-end.result c.lay_run-end.new.out c.lay_run-end.ensures.end c.lay_run-end.ensures.bytes in
     placed.1 ∙ ap (laid c.args.out.now c.args.at) (sym last)
 
-pub lay-end-requires-in-loop-behind : goal.lay-end-requires-in-loop-behind
-lay-end-requires-in-loop-behind c =
+pub lay-end-requires : goal.lay-end-requires
+lay-end-requires c =
     let l = c.loop-behind in
     let fit = both_fit (marked c.args.self.bits) c.args.value.now c.args.out.now c.args.at c.requires l.invariant.0 l.rest.now l.invariant.1 c.run_len.result c.run_len.ensures.stays c.run_len.ensures.next c.split_at.result.0.now c.split_at.result.1.now c.split_at.ensures.front c.split_at.ensures.back c.in-len1-up.len_at_least in
-    omega (arith, fit, l.invariant.2.0, l.auto.out, c.lay-end.ensures.end, c.lay-end.ensures.len, ap length c.replacement_of.ensures)
+    omega (arith, fit, l.invariant.2.0, l.auto.out, c.lay_run-end.ensures.end, c.lay_run-end.ensures.len, ap length c.replacement_of.ensures)
 
 pub loop-behind-preserved : goal.loop-behind-preserved
 loop-behind-preserved c =
@@ -32,8 +32,8 @@ loop-behind-preserved c =
     let r = replacement (get_or back 0 0) in
     let more = run_next p c.args.value.now d at c.requires done l.rest.now l.invariant.1 c.run_len.result c.run_len.ensures.stays c.run_len.ensures.next run back c.split_at.ensures.front c.split_at.ensures.back c.in-len1-up.len_at_least in
     let fit = both_fit p c.args.value.now d at c.requires done l.rest.now l.invariant.1 c.run_len.result c.run_len.ensures.stays c.run_len.ensures.next run back c.split_at.ensures.front c.split_at.ensures.back c.in-len1-up.len_at_least in
-    let first = c.lay-end in
-    let second = c.lay-end-in-loop-behind in
+    let first = c.lay_run-end in
+    let second = c.lay-end in
     let before = placed_more d at done run (omega (arith, fit)) l.end l.out l.invariant.2 first.result first.new.out first.ensures.end first.ensures.bytes in
     let after = placed_more d at (done ++ run) r (omega (arith, fit, length-append done run)) first.result first.new.out before second.result second.new.out (second.ensures.end ∙ ap (λ s. first.result + length s) c.replacement_of.ensures) (second.ensures.bytes ∙ ap (laid first.new.out first.result) c.replacement_of.ensures) in
     ((done ++ run) ++ r, more, after)
