@@ -16,6 +16,8 @@ use style::WriteResult;
 pub type Lead = (Option<([u8; 1], Run)>, [u8; 1]);
 
 /// Puts a piece behind what is in use of the stage, or refuses it where it does not fit.
+// Inlined, since else the piece is put together in memory first.
+#[inline(always)]
 pub fn put<P: Piece>(stage: &mut Lent<'_, u8>, piece: &P) -> Result<(), Refusal>
     requires { stage.old.used ≤ length (usable stage.old) }
     ensures puts { Put result (P.bytes piece.now) (buf stage.old) (buf stage.new) }

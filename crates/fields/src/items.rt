@@ -33,6 +33,8 @@ fn append_item<R: EscapeRule>(
 
 // Beside `string_at_attribute_item` of attributes: one grows the children, the other the open tag before them.
 /// A text or a variant as an item of a list that is a text; an empty one writes nothing.
+// Inlined into the match on place and value, where a string and its rule need not be put together in memory.
+#[inline(always)]
 pub fn string_as_item<R: EscapeRule>(
     core: &mut Core<'_>,
     written: bool,

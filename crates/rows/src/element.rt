@@ -22,6 +22,8 @@ pub fn none_at_element(core: &mut Core<'_>, from: usize) -> Result<(), Refusal>
 }
 
 /// A text at the element place.
+// Inlined into the match on place and value, where a string and its rule need not be put together in memory.
+#[inline(always)]
 pub fn text_at_element<R: EscapeRule>(
     core: &mut Core<'_>,
     from: usize,
@@ -42,6 +44,8 @@ pub fn text_at_element<R: EscapeRule>(
 }
 
 /// A variant at the element place. Beside the text: there the empty string is an empty tag, and here `$text`.
+// Inlined into the match on place and value, where a string and its rule need not be put together in memory.
+#[inline(always)]
 pub fn variant_at_element<R: EscapeRule>(
     core: &mut Core<'_>,
     from: usize,

@@ -43,6 +43,8 @@ pub fn none_at_content(core: &mut Core<'_>) -> Result<(), Refusal>
 }
 
 /// A text at the content place, which has to allow it.
+// Inlined into the match on place and value, where a string and its rule need not be put together in memory.
+#[inline(always)]
 pub fn text_at_content<R: EscapeRule>(
     core: &mut Core<'_>,
     allowed: bool,
@@ -73,6 +75,8 @@ pub fn none_as_words(core: &mut Core<'_>) -> Result<(), Refusal>
 }
 
 /// A string where only text may stand: a text, and in place of a wrapped value a variant too.
+// Inlined into the match on place and value, where a string and its rule need not be put together in memory.
+#[inline(always)]
 pub fn string_as_words<R: EscapeRule>(
     core: &mut Core<'_>,
     string: Unescaped<'_, R>,
@@ -88,6 +92,8 @@ pub fn string_as_words<R: EscapeRule>(
 }
 
 /// A variant at the text place of a text field: `$text` writes nothing.
+// Inlined into the match on place and value, where a string and its rule need not be put together in memory.
+#[inline(always)]
 pub fn variant_at_text<R: EscapeRule>(
     core: &mut Core<'_>,
     name: Unescaped<'_, R>,
