@@ -44,7 +44,7 @@ fn is_name_char(c: char) -> bool
 }
 
 // The offset of the first character that stands in no name, if there is one.
-// A loop that breaks with it, by hand: a closure would have to hand out the offset too.
+// A loop that breaks with the offset, as the answer is where it stopped.
 fn first_stray(name: &str) -> Option<usize>
     ensures { result ≡ stray_from (chars name.now) 0 }
 {
@@ -107,7 +107,8 @@ fn first_fault(name: &str) -> Option<usize>
     }
 }
 
-/// As the function of that name, which also takes what is lent as a `&str`, as a `&String` is.
+/// The name that these characters are, or refusal 5 with the offset of the first character at fault: `XmlName::try_from` for code
+/// over the library's trait.
 impl<'n> TryFrom<&'n str> for XmlName<'n> {
     type Error = Refusal;
 
@@ -120,6 +121,7 @@ impl<'n> TryFrom<&'n str> for XmlName<'n> {
 
 impl<'n> XmlName<'n> {
     /// The name that these characters are, or refusal 5 with the offset of the first character at fault.
+    // Beside the trait's, since it also takes what is lent as a `&str`: a `&String`, or a `&&str`.
     pub fn try_from(name: &'n str) -> Result<XmlName<'n>, Refusal>
         ensures cases { MatchResult result (λ n. (n.name.now ≡ name.now) × Name name.now) (λ e. (number e ≡ 5) × (name_fault name.now ≡ Some (offset e)) × FirstAtFault name.now (offset e) × (Name name.now → ⊥)) }
     {
