@@ -44,7 +44,7 @@ fn is_name_char(c: char) -> bool
 }
 
 // The offset of the first character that stands in no name, if there is one.
-// A loop that breaks with the offset, as the answer is where it stopped.
+// A loop that breaks with it: the name check is to walk a name by hand (docs/DECISIONS.md).
 fn first_stray(name: &str) -> Option<usize>
     ensures { result ≡ stray_from (chars name.now) 0 }
 {
@@ -97,8 +97,7 @@ fn first_fault(name: &str) -> Option<usize>
     ensures value { result ≡ name_fault name.now }
     ensures faults { Faults result name.now }
 {
-    // Asked first, so that a name with other characters is not walked by its bytes and then once more.
-    if name.is_ascii() && is_plain_name(name.as_bytes()) {
+    if is_plain_name(name.as_bytes()) {
         None
     } else if name.starts_with(is_name_start_char) {
         first_stray(name)

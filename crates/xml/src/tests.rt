@@ -141,8 +141,8 @@ fn name_characters(rt: HostRuntime) -> Result<(), Fail> {
             Kind::Inside => (Some(Refusal::Name(0)), None),
             Kind::Neither => (Some(Refusal::Name(0)), Some(Refusal::Name(1))),
         };
-        assert_eq!(rt; XmlName::try_from(*c).err(), alone, "{}", c);
-        assert_eq!(rt; XmlName::try_from(behind.as_str()).err(), inside, "{}", c);
+        assert_eq!(rt; XmlName::try_from(c).err(), alone, "{}", c);
+        assert_eq!(rt; XmlName::try_from(&behind).err(), inside, "{}", c);
     }
     Ok(())
 }
