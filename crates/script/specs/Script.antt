@@ -24,7 +24,7 @@ abbrev pub Countable : Reader → Type 0
 Countable r = r.read + length r.rest < 2 ^ 64
 
 -- a reader whose lines can be counted, which every script is
-pub record Counted : Type 0 where
+pub record CountedReader : Type 0 where
   pub reader : Reader
   pub counts : Countable reader
 

@@ -3,7 +3,7 @@ ghost use Rattle.std.specs.Prelude.{◌≡◌, ◌+◌, ◌^◌, ◌<◌, length
 ghost use Rattle.script.specs.Cuts.{first_line, later_lines};
 ghost use Rattle.script.specs.Says.{Says};
 ghost use Rattle.script.specs.Order.{role, follows};
-ghost use Rattle.script.specs.Script.{Stops, Counted, Next};
+ghost use Rattle.script.specs.Script.{Stops, CountedReader, Next};
 ghost use Rattle.script.specs.declared.order.Phase.TheVariants.{SettingUp};
 
 use crate::cuts::part;
@@ -43,7 +43,7 @@ pub struct Script<'s> {
 
 // The fact is a ghost field and no `invariant`, so that `view` hands it on: each caller has it, of any script.
 impl<'s> Model for Script<'s> {
-    ghost Value = { Counted };
+    ghost Value = { CountedReader };
 
     ghost view = { λ s. record { reader = record { rest = s.rest.now; read = s.read; phase = s.phase }; counts = s.counts } };
 }
