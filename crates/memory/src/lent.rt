@@ -106,6 +106,7 @@ impl Lent<'_, u8> {
     }
 
     /// The size of a piece that fits behind what is in use; none where it does not fit.
+    // Always measured: `fits` asks the bound first, and has no size to tell.
     pub fn fitting_size<P: Piece>(&self, piece: &P) -> Option<usize>
         requires { self.now.used ≤ length (usable self.now) }
         ensures size { MatchOption result (length (usable self.now) < self.now.used + length (P.bytes piece.now)) (λ size. (size ≡ length (P.bytes piece.now)) × (self.now.used + length (P.bytes piece.now) ≤ length (usable self.now))) }
