@@ -13,8 +13,6 @@ use rows::gap;
 use xml::{EscapeRule, Unescaped, Use};
 
 /// A string as an item of an attribute's list: a text, or the name of a variant. An empty one writes nothing.
-// Inlined into the match on place and value, where a string and its rule need not be put together in memory.
-#[inline(always)]
 pub fn string_at_attribute_item<R: EscapeRule>(
     core: &mut Core<'_>,
     written: bool,

@@ -25,8 +25,6 @@ pub fn none_at_attribute(core: &mut Core<'_>) -> Result<(), Refusal>
 }
 
 /// A string at the attribute place: a text, or the name of a variant.
-// Inlined into the match on place and value, where a string and its rule need not be put together in memory.
-#[inline(always)]
 pub fn string_at_attribute<R: EscapeRule>(
     core: &mut Core<'_>,
     string: Unescaped<'_, R>,
