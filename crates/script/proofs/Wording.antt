@@ -1,16 +1,16 @@
 -- Looking a word up in the table of all words: its spelling tells it.
-use Rattle.std.proofs.Common.{◌≡◌, ℕ, zero, suc, ◌+◌, ◌<◌, Bool, false, List, [], ◌∷◌, length, drop, get_or, Some, Option, sym, ap, ◌∙◌, arith}
-use native.Mathlib.Numerals.{unary_clauses}
+use Rattle.std.proofs.Common.{◌≡◌, ℕ, Bool, true, List, [], ◌∷◌, Some, None, Option, sym, ap, ◌∙◌, arith}
 use Rattle.std.specs.List.{find}
 use Rattle.std.specs.Str.{bytes_eq}
+use Rattle.std.proofs.lemmas.Option.{none-some}
+use Rattle.std.proofs.lemmas.Slice.Eq.{bytes_eq-Decides}
 use Rattle.script.specs.declared.words.Word.{Word}
-use Rattle.script.specs.Words.{words, spelling, ToldApart}
+use Rattle.script.specs.Words.{words, spelling, Names, ToldApart}
 
--- past a word that fails, the search goes on as before
-pub find_past : (test : Word → Bool) (ws : List Word) (k : ℕ) (d : Word) → k < length ws → test (get_or ws k d) ≡ false → find test (drop (k + 1) ws) ≡ find test (drop k ws)
-find_past test [] k d l e = let no : ⊥ = omega (arith, l) in absurd no
-find_past test (v ∷ ws) zero d l e = grind arith
-find_past test (v ∷ ws) (suc k) d l e = simp unary_clauses (simp unary_clauses at (find_past test ws k d (omega (arith, l)) e))
+-- a word that is found is one that passes
+found_passes : (test : Word → Bool) (ws : List Word) (w : Word) → find test ws ≡ Some w → test w ≡ true
+found_passes test [] w e = absurd (none-some w e)
+found_passes test (v ∷ ws) w e = grind (arith, found_passes test ws w)
 
 -- the first word of the table that is written like this
 abbrev pub among : List ℕ → Option Word
@@ -21,3 +21,8 @@ told w = grind arith
 
 pub told_apart : ToldApart
 told_apart v w e = let same : Some v ≡ Some w = sym (told v) ∙ ap among e ∙ told w in cc
+
+-- what the search of the table says
+pub names : (r : Option Word) (bs : List ℕ) → r ≡ among bs → Names r bs
+names None bs e = λ w is. none-some w (e ∙ ap among is ∙ told w)
+names (Some w) bs e = (bytes_eq-Decides bs (spelling w)).0 (found_passes (λ v. bytes_eq bs (spelling v)) words w (sym e))

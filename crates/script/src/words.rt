@@ -90,13 +90,7 @@ impl Word {
     pub fn find(text: &[u8]) -> Option<Word>
         ensures names { Names result text.now }
     {
-        // A loop: by an iterator's `find` a script took up to a third more instructions.
-        for word in WORDS {
-            if text == word.spelling() {
-                return Some(word);
-            }
-        }
-        None
+        WORDS.iter().find(|word| text == word.spelling()).copied()
     }
 }
 

@@ -1,11 +1,13 @@
-use Rattle.std.proofs.Common.{rules, tests, sym, ap, ◌∙◌}
+use Rattle.std.proofs.Common.{rules, tests, ◌∙◌}
 use Rattle.std.specs.Str.{bytes_eq}
-use Rattle.script.specs.declared.words.Word.TheVariants.{New}
+use Rattle.std.proofs.lemmas.Iterator.{YieldsList-from_slice}
+use Rattle.std.proofs.lemmas.Iterator.Search.{find_from_yields_List}
 use Rattle.script.specs.Words.{words, spelling}
-use Rattle.script.proofs.Wording.{find_past}
+use Rattle.script.proofs.Wording.{names}
 use Rattle.script.proofs.words.Word.find.Goals as goal
 
-pub loop-word-preserved : goal.loop-word-preserved
-loop-word-preserved c =
+pub returns : goal.returns
+returns c =
     let text = c.args.text.now in
-    find_past (λ w. bytes_eq text (spelling w)) words c.loop-word.word-index New (search (rules, tests)) (ap (bytes_eq text) (sym c.spelling.ensures.value) ∙ sym c.eq.ensures ∙ c.if-eq.false) ∙ c.loop-word.invariant
+    let found = find_from_yields_List (λ w. bytes_eq text (spelling w)) _ _ c.find.result c.find.ensures.ran (YieldsList-from_slice words cc) (λ w b q k. search (rules, tests)) in
+    record { names = names _ text (c.copied.ensures ∙ found) }
